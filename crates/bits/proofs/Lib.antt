@@ -1,0 +1,6 @@
+pub mod Cases
+pub mod Sums
+pub mod Lists
+pub mod Back
+pub mod Digits
+pub mod Words

@@ -1,0 +1,82 @@
+-- The laws of 32-bit words: what two have in common, shifts, and loops that add up masked words or digits at their places.
+use Prim.Native.Nat.{ℕ, _+_, _-_, _*_, _/_, _%_, _^_, _≤_, _<_}
+use mathlib.Core.Path.{_≡_, refl, sym, ap, _∙_}
+use mathlib.Core.Bool.{Bool, true, false}
+use native.Mathlib.Nat.{le-div-iff-mul-le, div-eq-of-lt, lt-of-le-of-lt, lt-of-lt-of-le, mul-assoc, mul-mod-left, sub-add-cancel}
+use native.Mathlib.Numerals.{add-one}
+use native.Mathlib.Omega.{arith}
+use lib.Dec.{leb, ltb}
+use lib.Pow.{pow-pos, pow-add, pow-mono, shl-exact}
+use borrow.Author.Tests.{lt-ltb, leb-true, leb-false}
+use lib.Bits.{bitAnd, bitXor, and-le-l, and-lt, xor-lt}
+use lib.Count.{ones, ones-le}
+use Rattle.bits.specs.Sums.{sumBelow, xorBelow}
+use Rattle.bits.specs.Digits.{bit, dot, shiftUp}
+use Rattle.bits.proofs.Sums.{sum-cong, sum-same, sum-add, sum-cut, sum-mod, sum-more}
+use Rattle.bits.proofs.Digits.{bit-and, bit-xor, bit-high, bit-shift, digits-lt, ones-sum}
+
+-- the ones of both words
+pub ones-and : (x y : ℕ) → x < 2 ^ 32 → ones (bitAnd x y) ≡ dot x y
+unfolding dot
+ones-and x y h = ones-sum 32 (bitAnd x y) (lt-of-le-of-lt (and-le-l x y) h) ∙ sum-cong 32 (bit-and x y)
+
+pub ones-and-le : (x y : ℕ) → x < 2 ^ 32 → ones (bitAnd x y) ≤ 32
+ones-and-le x y h = ones-le 32 (bitAnd x y) (lt-of-le-of-lt (and-le-l x y) h)
+
+-- what two words have in common, the first moved down by b and with no digit above m
+pub dot-shifted : (x y m b : ℕ) → m < 32 → b ≤ m → x < 2 ^ (m + 1) → dot (x / 2 ^ b) y ≡ sumBelow (m + 1 - b) (λ a. bit x (b + a) * bit y a)
+unfolding dot
+dot-shifted x y m b l h k =
+    sum-cong 32 (λ a. ap (λ n. n * bit y a) (bit-shift x b a))
+    ∙ sum-cut 32 (m + 1 - b) (λ a. bit x (b + a) * bit y a) (omega arith)
+    (λ a w. ap (λ n. n * bit y a) (bit-high x (m + 1) (b + a) k (omega arith)) ∙ omega arith)
+
+-- a shift by the width or more leaves nothing
+pub shift-out : (x a : ℕ) → 32 ≤ a → shiftUp x a ≡ 0
+unfolding shiftUp
+shift-out x a h =
+    ap (λ (n : ℕ). x * 2 ^ n % 2 ^ 32) (sym (sub-add-cancel h))
+    ∙ ap (λ (n : ℕ). x * n % 2 ^ 32) (pow-add 2 (a - 32) 32)
+    ∙ ap (λ (n : ℕ). n % 2 ^ 32) (sym (mul-assoc x (2 ^ (a - 32)) (2 ^ 32)))
+    ∙ mul-mod-left (x * 2 ^ (a - 32)) (2 ^ 32)
+
+-- a digit put at a place within the word keeps its value
+pub shift-digit : (d a : ℕ) → d < 2 → a < 32 → shiftUp d a ≡ d * 2 ^ a
+unfolding shiftUp
+shift-digit d a h l = shl-exact {a = d} 1 a 32 h (omega arith)
+
+-- ---- a loop that puts digits at their places, the lowest first
+module _ (x d i : ℕ) (hx : x < 2 ^ i) (hd : d < 2) (hi : i < 32) where
+  pub placed-lt : x + shiftUp d i < 2 ^ (i + 1)
+  placed-lt = rw (shift-digit d i hd hi) (digits-lt x d i hx hd)
+
+  pub placed-fits : x + shiftUp d i < 2 ^ 32
+  placed-fits = lt-of-lt-of-le placed-lt (pow-mono {i = i + 1} {j = 32} (omega arith))
+
+-- ---- a loop that adds up masked words by exclusive or, and counts the ones once
+module _ (s x y : ℕ) (hs : s < 2 ^ 32) (hx : x < 2 ^ 32) (hy : y < 2 ^ 32) where
+  pub masked-lt : bitXor s (bitAnd x y) < 2 ^ 32
+  masked-lt = xor-lt 32 s (bitAnd x y) hs (and-lt 32 x y hx hy)
+
+  masked-ones : ones (bitXor s (bitAnd x y)) % 2 ≡ (ones s + dot x y) % 2
+  unfolding dot
+  masked-ones =
+      ap (λ (n : ℕ). n % 2) (ones-sum 32 (bitXor s (bitAnd x y)) masked-lt)
+      ∙ sum-mod 32 (λ a. bit (bitXor s (bitAnd x y)) a) (λ a. bit s a + bit x a * bit y a) (λ a l. omega (arith, bit-xor s (bitAnd x y) a, bit-and x y a))
+      ∙ ap (λ (n : ℕ). n % 2) (sum-add 32 (λ a. bit s a) (λ a. bit x a * bit y a) ∙ ap (λ (n : ℕ). n + sumBelow 32 (λ a. bit x a * bit y a)) (sym (ones-sum 32 s hs)))
+
+  -- one turn
+  pub masked-step : (f : ℕ → ℕ) (i : ℕ) → ones s % 2 ≡ sumBelow i f % 2 → dot x y ≡ f i → ones (bitXor s (bitAnd x y)) % 2 ≡ sumBelow (i + 1) f % 2
+  masked-step f i e d = masked-ones ∙ omega (arith, e, d, sum-more i f)
+
+pub xor-more : (n : ℕ) (f : ℕ → ℕ) → xorBelow (n + 1) f ≡ bitXor (xorBelow n f) (f n)
+unfolding xorBelow
+xor-more n f = rw add-one
+
+-- what is left of a frame above its first n digits tells whether it has more
+pub beyond-test : (f n : ℕ) → ltb 0 (f / 2 ^ n) ≡ leb (2 ^ n) f
+beyond-test f n = go (leb (2 ^ n) f) refl
+  where
+    go : (b : Bool) → leb (2 ^ n) f ≡ b → ltb 0 (f / 2 ^ n) ≡ b
+    go true e = lt-ltb 0 (f / 2 ^ n) (le-div-iff-mul-le {k = 2 ^ n} {x = 1} {y = f} (pow-pos n) .1 (omega (arith, leb-true (2 ^ n) f e)))
+    go false e = ap (λ (x : ℕ). ltb 0 x) (div-eq-of-lt (leb-false (2 ^ n) f e))

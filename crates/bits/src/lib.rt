@@ -1,0 +1,62 @@
+// Digits of 32-bit words. Every function is total: beyond a word or a table there are zeros.
+ghost use mathlib.Core.Path.{_≡_};
+ghost use Prim.Native.Nat.{_/_, _%_, _^_, _≤_, min};
+ghost use lib.ListN.{getD};
+ghost use lib.Dec.{leb};
+ghost use Rattle.bits.specs.Digits.{bit, dot, shiftUp};
+
+// Digit a of x.
+pub fn digit(x: u32, a: usize) -> u32
+    ensures { λ r. ⌜ r ≡ bit x a ⌝ }
+{
+    if a < 32 { (x >> a) % 2 } else { 0 }
+}
+
+// In how many places both words have a 1.
+pub fn ones_in_both(x: u32, y: u32) -> u32
+    ensures { λ r. ⌜ (r ≡ dot x y) × (r ≤ 32) ⌝ }
+{
+    u32::count_ones(x & y)
+}
+
+// The parity of the digits of x that the mask has.
+pub fn parity(x: u32, mask: u32) -> u32
+    ensures { λ r. ⌜ r ≡ dot x mask % 2 ⌝ }
+{
+    ones_in_both(x, mask) % 2
+}
+
+// x moved up by a places, what leaves the word lost.
+pub fn shift_up(x: u32, a: usize) -> u32
+    ensures { λ r. ⌜ r ≡ shiftUp x a ⌝ }
+{
+    if a < 32 { x << a } else { 0 }
+}
+
+// x moved down by a places.
+pub fn shift_down(x: u32, a: usize) -> u32
+    ensures { λ r. ⌜ r ≡ x / 2 ^ a ⌝ }
+{
+    if a < 32 { x >> a } else { 0 }
+}
+
+// Word i of a table, zero beyond it.
+pub fn word(table: &[u32], i: usize) -> u32
+    ensures { λ r. ⌜ r ≡ getD (now (table .entry)) i 0 ⌝ }
+{
+    if i < table.len() { table[i] } else { 0 }
+}
+
+// Whether a frame has a digit at stream n or beyond.
+pub fn beyond(frame: u8, n: usize) -> bool
+    ensures { λ r. ⌜ r ≡ leb (2 ^ n) frame ⌝ }
+{
+    if n < 8 { 0 < frame >> n } else { false }
+}
+
+// x, held to a largest value.
+pub fn at_most(x: usize, most: usize) -> usize
+    ensures { λ r. ⌜ r ≡ min x most ⌝ }
+{
+    if x < most { x } else { most }
+}
