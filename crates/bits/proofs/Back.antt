@@ -38,8 +38,8 @@ turned n t g h l =
     ∙ sum-reverse t (λ a. g a * back h t a)
     ∙ sum-same (suc t) (λ b. g (t - b) * back h t (t - b)) (λ b. back g t b * h b)
     (λ b lb.
-      let s : t - (t - b) ≡ b = omega arith in
-      rw (back-in h t (t - b) (omega arith), back-in g t b (omega arith), s))
+    let s : t - (t - b) ≡ b = omega arith in
+    rw (back-in h t (t - b) (omega arith), back-in g t b (omega arith), s))
     ∙ sym (sum-cut n (suc t) (λ b. back g t b * h b) l (λ b lb. rw (back-out g t b lb) (zero-mul (h b))))
 
 -- the sum of f a · g (a - b) over a = b, .., n - 1, as one over a - b

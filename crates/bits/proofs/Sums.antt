@@ -165,13 +165,13 @@ sum-but-one zero f g i d l h r = absurd (omega arith)
 sum-but-one (suc n) f g i d l h r =
     ⊎-elim
     (λ e.
-      let h' : f n ≤ g n + d = rw e at h in
-      let s = sum-mono n f g (λ q l'. r q (omega arith) (omega arith)) in
-      omega arith)
+    let h' : f n ≤ g n + d = rw e at h in
+    let s = sum-mono n f g (λ q l'. r q (omega arith) (omega arith)) in
+    omega arith)
     (λ l'.
-      let s = sum-but-one n f g i d l' h (λ q lq ne. r q (omega arith) ne) in
-      let t = r n (le-refl (suc n)) (omega arith) in
-      omega arith)
+    let s = sum-but-one n f g i d l' h (λ q lq ne. r q (omega arith) ne) in
+    let t = r n (le-refl (suc n)) (omega arith) in
+    omega arith)
     (last-or-below l)
 
 -- two sums whose terms differ at i alone, by d
@@ -194,6 +194,7 @@ at-most-one (suc n) f d h =
   where
     nought : (x : ℕ) → x ≤ 1 → (x ≡ 1 → ⊥) → x ≡ 0
     nought x lx ne = omega arith
+
     go : Dec (0 < f n) → sumBelow n f ≤ 1 → sumBelow n f + f n ≤ 1
     go (yes l) below =
         let last = d n (le-refl (suc n)) in

@@ -18,10 +18,10 @@ returns : tie.Need-returns
 returns c = beyond-test (c .before .args .frame) (c .before .args .n)
 
 returns-2 : tie.Need-returns-2
-returns-2 c = 
+returns-2 c =
     sym
     (lt-leb (2 ^ c .before .args .n) (c .before .args .frame)
-      (omega (arith, pow-mono {i = 8} {j = c .before .args .n} (c .if1 .left), c .before .fits .frame .fits)))
+    (omega (arith, pow-mono {i = 8} {j = c .before .args .n} (c .if1 .left), c .before .fits .frame .fits)))
 
 pub beyond-spec : {M : Type 1} → statement M
 beyond-spec = tie.close (tie.spec cast-result shr-result returns returns-2)

@@ -1,0 +1,18 @@
+use native.Mathlib.Omega.{arith}
+use Rattle.card.specs.Registers.{shiftIn}
+use borrow.Author.Needs.{needs}
+use Rattle.card.proofs.code.shifted_in.Statement.{statement}
+use Rattle.card.proofs.code.shifted_in.Tie as tie
+
+mul-result : tie.Need-mul-result
+mul-result c = search needs
+
+add-result : tie.Need-add-result
+add-result c = search needs
+
+returns : tie.Need-returns
+unfolding shiftIn
+returns c = omega arith
+
+pub shifted-in-spec : {M : Type 1} → statement M
+shifted-in-spec = tie.close (tie.spec mul-result add-result returns)

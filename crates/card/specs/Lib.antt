@@ -1,0 +1,6 @@
+pub mod Refusals
+pub mod Outcome
+pub mod Code
+pub mod Checks
+pub mod Guarantees
+pub mod Registers

@@ -1,0 +1,26 @@
+-- The code by registers, for registers and tables of every value: what `code` computes. Nobody has to believe this file: the laws in
+-- proofs/Registers.antt tie it to the code of document 01 (`Code`).
+-- Assumes nothing.
+use Prim.Native.Nat.{ℕ, _+_, _*_, _%_, _^_, min}
+use mathlib.Core.Bool.{cond}
+use mathlib.Core.List.{List, _++_}
+use lib.ListN.{getD, drop, replicate}
+use lib.Dec.{ltb}
+use Rattle.bits.specs.Sums.{sumBelow, upTo}
+use Rattle.bits.specs.Digits.{bit, dot}
+
+-- the mask of information stream i and parity stream j, zero beyond the table
+unfoldable pub generatorMask : List ℕ → ℕ → ℕ → ℕ
+generatorMask g i j = cond (ltb i 4) (cond (ltb j 8) (getD g (i * 8 + j) 0) 0) 0
+
+-- a register of 32 digits with one digit more at its low end
+unfoldable pub shiftIn : ℕ → ℕ → ℕ
+shiftIn x d = (x * 2 + d) % 2 ^ 32
+
+-- the history registers after a frame, zero beyond the k information streams
+unfoldable pub historyBy : List ℕ → ℕ → ℕ → List ℕ
+historyBy h k f = upTo (min k 4) (λ i. shiftIn (getD h i 0) (bit f i)) ++ drop (min k 4) (replicate 4 0)
+
+-- the digit of parity stream j that the information digits in the registers give
+unfoldable pub parityBy : List ℕ → List ℕ → ℕ → ℕ → ℕ
+parityBy g h k j = sumBelow (min k 4) (λ i. dot (generatorMask g i j) (getD h i 0)) % 2

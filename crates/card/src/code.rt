@@ -1,0 +1,52 @@
+// The code by registers: bit a of history register i is information digit i of the frame a before the last one taken.
+ghost use mathlib.Core.Path.{_≡_};
+ghost use Prim.Native.Nat.{_<_};
+ghost use Rattle.card.specs.Registers.{generatorMask, shiftIn, historyBy, parityBy};
+
+// The generator of information stream i and parity stream j, zero beyond the table.
+pub fn generator(generators: &[u32; 32], i: usize, j: usize) -> u32
+    ensures { λ r. ⌜ r ≡ generatorMask (now (generators .entry)) i j ⌝ }
+{
+    if i < 4 {
+        if j < 8 {
+            return generators[i * 8 + j];
+        }
+    }
+    0
+}
+
+// The register with one digit more at its low end.
+fn shifted_in(x: u32, digit: u32) -> u32
+    requires { ⌜ digit < 2 ⌝ }
+    ensures { λ r. ⌜ r ≡ shiftIn x digit ⌝ }
+{
+    x % 0x8000_0000 * 2 + digit
+}
+
+// The history registers of k information streams after one frame more.
+pub fn history(registers: &[u32; 4], k: usize, frame: u32) -> [u32; 4]
+    ensures { λ r. ⌜ r ≡ historyBy (now (registers .entry)) k frame ⌝ }
+{
+    let streams = bits::at_most(k, 4);
+    let mut next = [0u32; 4];
+    let mut i = 0;
+    while i < streams {
+        next[i] = shifted_in(bits::word(registers, i), bits::digit(frame, i));
+        i += 1;
+    }
+    next
+}
+
+// The digit of parity stream j that the information digits in the registers give.
+pub fn parity(generators: &[u32; 32], registers: &[u32; 4], k: usize, j: usize) -> u32
+    ensures { λ r. ⌜ r ≡ parityBy (now (generators .entry)) (now (registers .entry)) k j ⌝ }
+{
+    let streams = bits::at_most(k, 4);
+    let mut sum: u32 = 0;
+    let mut i = 0;
+    while i < streams {
+        sum = sum ^ (generator(generators, i, j) & bits::word(registers, i));
+        i += 1;
+    }
+    u32::count_ones(sum) % 2
+}

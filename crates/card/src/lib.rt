@@ -1,0 +1,74 @@
+// Link cards: the code and the checks that a card names, and reading one from its bytes.
+pub mod code;
+
+ghost use mathlib.Core.Path.{_≡_};
+ghost use Rattle.card.specs.Refusals.{numberOf};
+
+// What a card states; what it does not state is zero, so equal cards are equal values.
+pub struct Card {
+    pub number: u8,
+    pub k: usize, // information streams
+    pub p: usize, // parity streams, n - k
+    pub m: usize, // memory
+    pub generators: [u32; 32], // information stream i, parity stream j, at i * 8 + j
+    pub counts: [usize; 4], // J of information stream i
+    pub checks: [u32; 512], // information stream i, check q, parity stream j, at i * 128 + q * 8 + j
+}
+
+// Why something is refused. Each case has its published number, by `refusal_number`.
+pub enum Refusal {
+    CardCutShort,
+    KOutOfRange,
+    NOutOfRange,
+    MemoryAboveLimit,
+    MapBeyondStreams,
+    MaskOutOfRange,
+    CheckCountOutOfRange,
+    OwnDigitUntouched,
+    ErrorTouchedBefore,
+    BytesAfterChecks,
+    DigitBeyondStreams,
+    LevelNotFinite,
+    OutputTooShort,
+    OtherCardNumber,
+    TooManyFrames,
+    TailBegun,
+    TailSent,
+}
+
+// What reading a card comes to.
+pub enum Verdict {
+    Accepted,
+    Refused { refusal: Refusal, offset: usize },
+}
+
+// The verdict, and the card that was read: the empty card where it is refused.
+pub struct CardRead {
+    pub verdict: Verdict,
+    pub card: Card,
+}
+
+// The number under which a refusal is published.
+pub fn refusal_number(refusal: Refusal) -> u8
+    ensures { λ r. ⌜ r ≡ numberOf refusal ⌝ }
+{
+    match refusal {
+        Refusal::CardCutShort => 1,
+        Refusal::KOutOfRange => 2,
+        Refusal::NOutOfRange => 3,
+        Refusal::MemoryAboveLimit => 4,
+        Refusal::MapBeyondStreams => 5,
+        Refusal::MaskOutOfRange => 6,
+        Refusal::CheckCountOutOfRange => 7,
+        Refusal::OwnDigitUntouched => 8,
+        Refusal::ErrorTouchedBefore => 9,
+        Refusal::BytesAfterChecks => 10,
+        Refusal::DigitBeyondStreams => 11,
+        Refusal::LevelNotFinite => 12,
+        Refusal::OutputTooShort => 13,
+        Refusal::OtherCardNumber => 14,
+        Refusal::TooManyFrames => 15,
+        Refusal::TailBegun => 16,
+        Refusal::TailSent => 17,
+    }
+}
