@@ -8,3 +8,4 @@ pub mod Reading
 pub mod Layout
 pub mod Promise
 pub mod Registers
+pub mod Parts
