@@ -1,4 +1,10 @@
+-- the code
+pub mod Frames
+pub mod Parity
+pub mod Sent
 pub mod Registers
+pub mod Touches
+-- reading
 pub mod FieldValues
 pub mod ReadParts
 pub mod HeadStages
