@@ -10,3 +10,4 @@ pub mod ReadParts
 pub mod HeadStages
 pub mod Rest
 pub mod RestGenerators
+pub mod ErrorMasks

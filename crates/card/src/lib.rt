@@ -1,5 +1,6 @@
 // Link cards: the code and the checks that a card names, and reading one from its bytes.
 pub mod code;
+mod errors;
 mod fields;
 mod parts;
 
