@@ -11,3 +11,4 @@ pub mod HeadStages
 pub mod Rest
 pub mod RestGenerators
 pub mod ErrorMasks
+pub mod Judging
