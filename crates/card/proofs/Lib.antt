@@ -5,6 +5,7 @@ pub mod Sent
 pub mod Registers
 pub mod Touches
 -- reading
+pub mod Numbers
 pub mod FieldValues
 pub mod ReadParts
 pub mod HeadStages
@@ -12,3 +13,5 @@ pub mod Rest
 pub mod RestGenerators
 pub mod ErrorMasks
 pub mod Judging
+pub mod RestChecks
+pub mod CheckLoops
