@@ -15,3 +15,4 @@ pub mod ErrorMasks
 pub mod Judging
 pub mod RestChecks
 pub mod CheckLoops
+pub mod WholeCard
