@@ -10,3 +10,5 @@ pub mod ReadParts
 pub mod HeadStages
 pub mod Rest
 pub mod RestGenerators
+-- accepted exactly when
+pub mod Stores
