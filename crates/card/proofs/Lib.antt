@@ -12,3 +12,4 @@ pub mod Rest
 pub mod RestGenerators
 -- accepted exactly when
 pub mod Stores
+pub mod Standing
