@@ -12,4 +12,6 @@ pub mod Rest
 pub mod RestGenerators
 -- accepted exactly when
 pub mod Stores
+pub mod Clashes
 pub mod Standing
+pub mod Orthogonality

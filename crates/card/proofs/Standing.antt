@@ -1,112 +1,49 @@
 -- The checks of a stream stand, as reading judges them one after another, exactly when they are orthogonal.
-use Prim.Native.Nat.{ℕ, zero, suc, _+_, _*_, _≤_, _<_}
-use mathlib.Core.Path.{_≡_, refl}
+use Prim.Native.Nat.{ℕ, zero, suc, _+_, _≤_, _<_}
+use mathlib.Core.Path.{_≡_}
 use mathlib.Core.List.{List, [], _∷_}
-use mathlib.Core.Logic.{_⊎_, inl, inr, ⊎-elim}
-use native.Mathlib.Nat.{zero-mul}
+use mathlib.Core.Logic.{⊎-elim}
 use native.Mathlib.Omega.{arith}
 use lib.ListN.{length, getD}
-use lib.Dec.{eqb}
-use borrow.Author.Tests.{eqb-true, eq-eqb, ne-eqb}
-use Rattle.bits.specs.Sums.{sumBelow}
-use Rattle.bits.proofs.Cases.{le-or-lt, same-or-not, picked}
-use Rattle.bits.proofs.Sums.{sum-none, none-of-sum}
+use Rattle.bits.proofs.Cases.{le-or-lt}
 use Rattle.card.specs.Checks.{touchesBy}
-use Rattle.card.specs.Reading.{maskAt, otherError, touchedBy, clashes, judge}
+use Rattle.card.specs.Reading.{maskAt, touchedBy, judge}
 use Rattle.card.specs.declared.Card.{Card}
 use Rattle.card.proofs.Touches.{touches-by-le}
+use Rattle.card.proofs.Clashes.{no-clash, clash-none, judge-none, none-judge}
 
--- ---- the errors other than that of the own digit
-other-one : (i b s : ℕ) → (b ≡ 0 → s ≡ i → ⊥) → otherError i b s ≡ 1
-unfolding otherError
-other-one i b s h = ⊎-elim (λ q. rw (eq-eqb b 0 q, ne-eqb s i (h q))) (λ q. rw (ne-eqb b 0 q)) (same-or-not b 0)
-
-own-or-other : (i b s : ℕ) → (otherError i b s ≡ 0) ⊎ (b ≡ 0 → s ≡ i → ⊥)
-unfolding otherError
-own-or-other i b s =
-    ⊎-elim
-    (λ q. ⊎-elim (λ w. inl (rw (eq-eqb b 0 q, eq-eqb s i w))) (λ w. inr (λ x y. w y)) (same-or-not s i))
-    (λ q. inr (λ x y. q x))
-    (same-or-not b 0)
-
-product-none : (d t x : ℕ) → t ≤ 1 → (t ≡ 1 → 1 ≤ x → ⊥) → d * (t * x) ≡ 0
-product-none d zero x h n = omega arith
-product-none d (suc zero) zero h n = omega arith
-product-none d (suc zero) (suc x) h n = absurd (n refl (omega arith))
-product-none d (suc (suc t)) x h n = absurd (omega arith)
+-- 1 if check q of a list touches the error (b, s)
+abbrev pub touchesAt : Card → List (List ℕ) → ℕ → ℕ → ℕ → ℕ
+touchesAt c checks q b s = touchesBy c (maskAt (getD checks q [])) b s
 
 module _ (c : Card) (i : ℕ) where
-  -- ---- one check
-  no-clash : (earlier : List (List ℕ)) (vs : List ℕ)
-      → ((b s : ℕ) → b ≤ c .m → s < c .k + c .p → (b ≡ 0 → s ≡ i → ⊥) → touchesBy c (maskAt vs) b s ≡ 1 → 1 ≤ touchedBy c earlier b s → ⊥)
-      → clashes c i earlier vs ≡ 0
-  unfolding clashes
-  no-clash earlier vs h =
-      sum-none (suc (c .m)) _ (λ b l.
-      sum-none (c .k + c .p) _ (λ s k.
-      ⊎-elim
-      (λ q. rw q (zero-mul _))
-      (λ q. product-none (otherError i b s) (touchesBy c (maskAt vs) b s) (touchedBy c earlier b s) (touches-by-le c (maskAt vs) b s) (h b s (omega arith) k q))
-      (own-or-other i b s)))
-
-  module _ (b s : ℕ) (b-most : b ≤ c .m) (s-most : s < c .k + c .p) (other : b ≡ 0 → s ≡ i → ⊥) where
-    clash-none : (earlier : List (List ℕ)) (vs : List ℕ) → clashes c i earlier vs ≡ 0 → touchesBy c (maskAt vs) b s ≡ 1 → 1 ≤ touchedBy c earlier b s → ⊥
-    unfolding clashes
-    clash-none earlier vs e t h =
-        let z = none-of-sum (c .k + c .p) _ (none-of-sum (suc (c .m)) _ e b (omega arith)) s s-most in
-        let y : 1 * (1 * touchedBy c earlier b s) ≡ 0 = rw (other-one i b s other, t) at z in
-        omega arith
-
-  judge-none : (earlier : List (List ℕ)) (vs : List ℕ) → judge c i earlier vs ≡ 0
-      → (touchesBy c (maskAt vs) 0 i ≡ 1) × (clashes c i earlier vs ≡ 0)
-  unfolding judge
-  judge-none earlier vs e =
-      ⊎-elim
-      (λ h.
-      ⊎-elim
-      (λ k. (eqb-true _ 1 (h .0), eqb-true _ 0 (k .0)))
-      (λ k. let z = k .1 in absurd (omega arith))
-      (picked (eqb (clashes c i earlier vs) 0) (h .1)))
-      (λ h. let z = h .1 in absurd (omega arith))
-      (picked (eqb (touchesBy c (maskAt vs) 0 i) 1) e)
-
-  none-judge : (earlier : List (List ℕ)) (vs : List ℕ) → touchesBy c (maskAt vs) 0 i ≡ 1 → clashes c i earlier vs ≡ 0 → judge c i earlier vs ≡ 0
-  unfolding judge
-  none-judge earlier vs own none = rw (eq-eqb _ 1 own, eq-eqb _ 0 none)
-
-  -- ---- the checks of a stream, one after another
-
   -- none of the checks is refused after the earlier ones
   abbrev pub ChecksStand : List (List ℕ) → List (List ℕ) → Type 0
   ChecksStand earlier [] = Unit {0}
   ChecksStand earlier (vs ∷ checks) = (judge c i earlier vs ≡ 0) × ChecksStand (vs ∷ earlier) checks
 
-  -- check q of a list touches the error (b, s)
-  abbrev pub touchesAt : List (List ℕ) → ℕ → ℕ → ℕ → ℕ
-  touchesAt checks q b s = touchesBy c (maskAt (getD checks q [])) b s
-
   -- the checks of a list are orthogonal, in the words of `Orthogonal`
   pub record ListOrthogonal (checks : List (List ℕ)) : Type 0 where
-    pub own : (q : ℕ) → q < length checks → touchesAt checks q 0 i ≡ 1
+    pub own : (q : ℕ) → q < length checks → touchesAt c checks q 0 i ≡ 1
     pub apart : (b s q r : ℕ) → b ≤ c .m → s < c .k + c .p → (b ≡ 0 → s ≡ i → ⊥) → q < r → r < length checks
-        → touchesAt checks q b s ≡ 1 → touchesAt checks r b s ≡ 1 → ⊥
+        → touchesAt c checks q b s ≡ 1 → touchesAt c checks r b s ≡ 1 → ⊥
 
   -- ---- checks that stand are orthogonal
-  own-at : (earlier checks : List (List ℕ)) → ChecksStand earlier checks → (q : ℕ) → q < length checks → touchesAt checks q 0 i ≡ 1
+  own-at : (earlier checks : List (List ℕ)) → ChecksStand earlier checks → (q : ℕ) → q < length checks → touchesAt c checks q 0 i ≡ 1
   own-at earlier [] a q h = absurd (omega arith)
-  own-at earlier (vs ∷ checks) a zero h = judge-none earlier vs (a .0) .0
+  own-at earlier (vs ∷ checks) a zero h = judge-none c i earlier vs (a .0) .0
   own-at earlier (vs ∷ checks) a (suc q) h = own-at (vs ∷ earlier) checks (a .1) q (omega arith)
 
   module _ (b s : ℕ) (b-most : b ≤ c .m) (s-most : s < c .k + c .p) (other : b ≡ 0 → s ≡ i → ⊥) where
     apart-from : (earlier checks : List (List ℕ)) → ChecksStand earlier checks → (q : ℕ) → q < length checks → 1 ≤ touchedBy c earlier b s
-        → touchesAt checks q b s ≡ 1 → ⊥
+        → touchesAt c checks q b s ≡ 1 → ⊥
     unfolding touchedBy
     apart-from earlier [] a q h n e = absurd (omega arith)
-    apart-from earlier (vs ∷ checks) a zero h n e = clash-none b s b-most s-most other earlier vs (judge-none earlier vs (a .0) .1) e n
+    apart-from earlier (vs ∷ checks) a zero h n e = clash-none c i b s b-most s-most other earlier vs (judge-none c i earlier vs (a .0) .1) e n
     apart-from earlier (vs ∷ checks) a (suc q) h n e = apart-from (vs ∷ earlier) checks (a .1) q (omega arith) (omega arith) e
 
-    apart-at : (earlier checks : List (List ℕ)) → ChecksStand earlier checks → (q r : ℕ) → q < r → r < length checks → touchesAt checks q b s ≡ 1
-        → touchesAt checks r b s ≡ 1 → ⊥
+    apart-at : (earlier checks : List (List ℕ)) → ChecksStand earlier checks → (q r : ℕ) → q < r → r < length checks → touchesAt c checks q b s ≡ 1
+        → touchesAt c checks r b s ≡ 1 → ⊥
     unfolding touchedBy
     apart-at earlier [] a q r h l e e₁ = absurd (omega arith)
     apart-at earlier (vs ∷ checks) a q zero h l e e₁ = absurd (omega arith)
@@ -125,12 +62,12 @@ module _ (c : Card) (i : ℕ) where
   -- no other error is touched by an earlier check and by one of the list
   abbrev ApartFrom : List (List ℕ) → List (List ℕ) → Type 0
   ApartFrom earlier checks =
-      (b s q : ℕ) → b ≤ c .m → s < c .k + c .p → (b ≡ 0 → s ≡ i → ⊥) → q < length checks → 1 ≤ touchedBy c earlier b s → touchesAt checks q b s ≡ 1 → ⊥
+      (b s q : ℕ) → b ≤ c .m → s < c .k + c .p → (b ≡ 0 → s ≡ i → ⊥) → q < length checks → 1 ≤ touchedBy c earlier b s → touchesAt c checks q b s ≡ 1 → ⊥
 
   stand-after : (earlier checks : List (List ℕ)) → ListOrthogonal checks → ApartFrom earlier checks → ChecksStand earlier checks
   stand-after earlier [] o a = tt
   stand-after earlier (vs ∷ checks) o a = (
-    none-judge earlier vs (o .own 0 (omega arith)) (no-clash earlier vs (λ b s l k other e n. a b s 0 l k other (omega arith) n e)),
+    none-judge c i earlier vs (o .own 0 (omega arith)) (no-clash c i earlier vs (λ b s l k other e n. a b s 0 l k other (omega arith) n e)),
     stand-after (vs ∷ earlier) checks
         (record {
           own = λ q h. o .own (suc q) (omega arith);

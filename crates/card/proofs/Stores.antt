@@ -9,6 +9,19 @@ use Rattle.bits.proofs.Lists.{zeros-at}
 use Rattle.card.specs.Fields.{Stream, store, storeRows, storeChecks, storeStreams, storeCounts}
 use Rattle.card.specs.Layout.{MasksIn, AllMasksIn, StreamIn, AllStreamsIn}
 
+-- ---- lists of masks and of streams, at a place
+
+-- beyond the streams of a card
+abbrev pub noStream : Stream
+noStream = record { count = 0; checks = [] }
+
+pub stream-in : (p m : ℕ) (streams : List Stream) → AllStreamsIn p m streams → (i : ℕ) → i < length streams → StreamIn p m (getD streams i noStream)
+stream-in p m [] a i h = absurd (omega arith)
+stream-in p m (s ∷ streams) a zero h = a .0
+stream-in p m (s ∷ streams) a (suc i) h = stream-in p m streams (a .1) i (omega arith)
+
+-- ---- tables
+
 -- a table is zero from a place on
 abbrev pub ZeroFrom : ℕ → List ℕ → Type 0
 ZeroFrom at table = (n : ℕ) → at ≤ n → getD table n 0 ≡ 0
@@ -77,10 +90,6 @@ unfolding storeCounts
 counts-low i [] table n h = refl
 counts-low i (s ∷ streams) table n h =
     counts-low (i + 1) streams (set table i (s .count)) n (omega arith) ∙ getD-set-other table i n (s .count) 0 (omega arith)
-
--- beyond the streams of a card
-abbrev pub noStream : Stream
-noStream = record { count = 0; checks = [] }
 
 counts-from : (i : ℕ) (streams : List Stream) (table : List ℕ) → i + length streams ≤ length table → ZeroFrom i table → (i₁ n : ℕ) → n ≡ i + i₁
     → getD (storeCounts i streams table) n 0 ≡ getD streams i₁ noStream .count
