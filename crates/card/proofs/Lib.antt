@@ -15,3 +15,5 @@ pub mod Stores
 pub mod Clashes
 pub mod Standing
 pub mod Orthogonality
+pub mod WholeReading
+pub mod Limits
