@@ -17,3 +17,6 @@ pub mod Standing
 pub mod Orthogonality
 pub mod WholeReading
 pub mod Limits
+pub mod LayoutLaws
+pub mod Laid
+pub mod LaidBack
