@@ -20,3 +20,5 @@ pub mod Limits
 pub mod LayoutLaws
 pub mod Laid
 pub mod LaidBack
+pub mod ChecksBack
+pub mod CardLength
