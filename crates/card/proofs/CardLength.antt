@@ -1,6 +1,6 @@
 -- No card within the limits has more than 1,163 bytes.
-use Prim.Native.Nat.{ℕ, zero, suc, _+_, _-_, _*_, _≤_, _<_}
-use mathlib.Core.Path.{_≡_, refl, ap}
+use Prim.Native.Nat.{ℕ, zero, suc, _+_, _-_, _*_, _≤_}
+use mathlib.Core.Path.{_≡_, ap}
 use mathlib.Core.Bool.{cond}
 use mathlib.Core.List.{List, [], _∷_, _++_}
 use mathlib.Core.Logic.{⊎-elim}
@@ -11,7 +11,7 @@ use lib.Dec.{eqb}
 use borrow.Author.Tests.{eq-eqb, ne-eqb}
 use Rattle.bits.proofs.Cases.{same-or-not}
 use Rattle.card.specs.Fields.{Head, Stream, Fields}
-use Rattle.card.specs.Layout.{bytes4, layoutMasks, optional, layoutHead, allRows, layoutRows, layoutChecks, layoutStreams, layout, MasksIn, AllMasksIn, StreamIn, AllStreamsIn, InLimits}
+use Rattle.card.specs.Layout.{bytes4, layoutMasks, optional, layoutHead, allRows, layoutRows, layoutChecks, layoutStreams, layout, AllMasksIn, AllStreamsIn, InLimits}
 use Rattle.card.proofs.LayoutLaws.{rows-long}
 
 mask-length : (v : ℕ) → length (cond (eqb v 0) [] (bytes4 v)) ≤ 4

@@ -1,18 +1,17 @@
 -- The bytes of fields within the limits whose checks are orthogonal are read back as these fields.
-use Prim.Native.Nat.{ℕ, zero, suc, _+_, _-_, _*_, _^_, _≤_, _<_}
+use Prim.Native.Nat.{ℕ, suc, _+_, _-_, _^_, _≤_, _<_}
 use mathlib.Core.Path.{_≡_, refl, sym, ap, subst, _∙_}
 use mathlib.Core.List.{List, [], _∷_, _++_, append-assoc, append-nil}
 use native.Mathlib.Nat.{mod-eq-of-lt}
 use native.Mathlib.Omega.{arith}
 use lib.ListN.{length, drop, length-drop}
-use lib.Dec.{eqb}
 use lib.Pow.{le-ones}
 use borrow.Author.Tests.{eq-eqb, le-ltb}
-use Rattle.card.specs.Fields.{Head, Stream, Fields, codeOf}
-use Rattle.card.specs.Reading.{Read, byteField, readHead, readMasks, readGenerators, judge, readCheck, readChecks, readStreams, readFields}
+use Rattle.card.specs.Fields.{Stream, Fields, codeOf}
+use Rattle.card.specs.Reading.{byteField, readHead, readMasks, readGenerators, judge, readCheck, readChecks, readStreams, readFields}
 use Rattle.card.specs.Reading.Field.{value}
 use Rattle.card.specs.Reading.Read.{got}
-use Rattle.card.specs.Layout.{mapOf, layoutMasks, layoutHead, layoutRows, layoutChecks, layoutStreams, layout, MasksIn, AllMasksIn, StreamIn, AllStreamsIn, InLimits, Acceptable}
+use Rattle.card.specs.Layout.{mapOf, layoutMasks, layoutRows, layoutChecks, layoutStreams, layout, AllMasksIn, AllStreamsIn, Acceptable}
 use Rattle.card.specs.declared.Card.{Card}
 use Rattle.card.proofs.Standing.{ChecksStand}
 use Rattle.card.proofs.Orthogonality.{AllStand, truly-standing}

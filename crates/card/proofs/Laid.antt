@@ -15,14 +15,14 @@ use lib.Pow.{lt-of-le-ones}
 use borrow.Author.Tests.{eq-eqb, ne-eqb, eqb-true, eqb-false}
 use Rattle.bits.proofs.Cases.{same-or-not, picked}
 use Rattle.card.specs.Fields.{Head, Stream, Fields, codeOf}
-use Rattle.card.specs.Reading.{Read, kField, nField, wordAt, standingMask, readHead, readMasks, readRows, readGenerators, readChecks, readStreams, readFields}
+use Rattle.card.specs.Reading.{kField, nField, wordAt, standingMask, readHead, readMasks, readRows, readGenerators, readChecks, readStreams, readFields}
 use Rattle.card.specs.Reading.Field.{value}
 use Rattle.card.specs.Reading.Read.{got}
 use Rattle.card.specs.Layout.{bytes4, stands, mapOf, layoutMasks, optional, layoutHead, allRows, layoutRows, layoutChecks, layoutStreams, layout}
 use Rattle.card.specs.declared.Card.{Card}
 use Rattle.card.proofs.FieldValues.{value-same, ByteIs, byte-is, mask-is, map-is}
-use Rattle.card.proofs.ReadParts.{got-what, got-where, field-got, next-got, map-got, HeadIs, head-is}
-use Rattle.card.proofs.WholeReading.{CheckIs, check-is, FieldsAre, fields-are}
+use Rattle.card.proofs.ReadParts.{got-what, got-where, field-got, next-got, map-got, head-is}
+use Rattle.card.proofs.WholeReading.{check-is, fields-are}
 use Rattle.card.proofs.Limits.{masks-in}
 use Rattle.card.proofs.LayoutLaws.{digit-first, digits-first, whole-map, map-append, masks-append, head-append}
 

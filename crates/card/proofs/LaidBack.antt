@@ -1,6 +1,6 @@
 -- The bytes of a head and of generators within the limits are read back as these.
 -- `drop at bs` are the bytes from an offset on: each law takes those from a part on to the part read and those after it.
-use Prim.Native.Nat.{ℕ, zero, suc, _+_, _-_, _*_, _/_, _%_, _^_, _≤_, _<_}
+use Prim.Native.Nat.{ℕ, suc, _+_, _*_, _/_, _%_, _^_, _≤_, _<_}
 use mathlib.Core.Path.{_≡_, refl, sym, ap, subst, _∙_}
 use mathlib.Core.Bool.{cond}
 use mathlib.Core.List.{List, [], _∷_, _++_, append-assoc}
@@ -14,8 +14,8 @@ use lib.Dec.{leb, eqb}
 use lib.Pow.{pow-mono}
 use borrow.Author.Tests.{eq-eqb, ne-eqb, lt-ltb, le-leb}
 use Rattle.bits.proofs.Cases.{le-or-lt, same-or-not}
-use Rattle.card.specs.Fields.{Head, Fields}
-use Rattle.card.specs.Reading.{Read, byteField, kField, nField, mapField, wordAt, maskField, standingMask, readHead, readMasks, readRows, readGenerators}
+use Rattle.card.specs.Fields.{Fields}
+use Rattle.card.specs.Reading.{byteField, kField, nField, mapField, wordAt, maskField, standingMask, readHead, readMasks, readRows, readGenerators}
 use Rattle.card.specs.Reading.Field.{value, bad}
 use Rattle.card.specs.Reading.Read.{got}
 use Rattle.card.specs.Layout.{bytes4, stands, mapOf, layoutMasks, optional, layoutHead, allRows, layoutRows, MasksIn, AllMasksIn, InLimits}
@@ -208,7 +208,6 @@ module _ (bs : List ℕ) where
 
   pub head-back : (f : Fields) (l : List ℕ) → InLimits f → bs ≡ layoutHead (f .head) ++ l → (at : ℕ) × (readHead bs ≡ got (f .head) at) × (drop at bs ≡ l)
   head-back f l w e =
-      let h = f .head in
       let k₁ = w .kStands-bit in
       let n₁ = w .nStands-bit in
       let a = byte-back 0 0 3 5 (f .head .kStands + 2 * f .head .nStands) _ (e ∙ sym (head-append (f .head) l)) (omega arith) (omega arith) in

@@ -1,5 +1,5 @@
 -- Laws of the layout: the digits of a map, the map and the masks of two parts of a list, the head and what follows it.
-use Prim.Native.Nat.{ℕ, zero, suc, _+_, _*_, _/_, _%_, _^_, _≤_, _<_}
+use Prim.Native.Nat.{ℕ, suc, _+_, _*_, _/_, _%_, _^_, _<_}
 use mathlib.Core.Path.{_≡_, refl, sym, ap, _∙_}
 use mathlib.Core.Bool.{cond}
 use mathlib.Core.List.{List, [], _∷_, _++_, append-assoc}
@@ -13,7 +13,7 @@ use lib.Arith.{mod-mul, digits-div, digits-mod}
 use borrow.Author.Tests.{eq-eqb, ne-eqb}
 use Rattle.bits.proofs.Cases.{same-or-not}
 use Rattle.card.specs.Fields.{Head}
-use Rattle.card.specs.Layout.{bytes4, stands, mapOf, layoutMasks, optional, layoutHead, allRows, MasksIn, AllMasksIn}
+use Rattle.card.specs.Layout.{bytes4, stands, mapOf, layoutMasks, optional, layoutHead, allRows, AllMasksIn}
 
 -- ---- the lowest digits of a map
 pub digit-first : (n d : ℕ) → n % 2 ^ suc d ≡ n % 2 + 2 * (n / 2 % 2 ^ d)

@@ -12,6 +12,7 @@ pub mod Rest
 pub mod RestGenerators
 -- accepted exactly when
 pub mod Stores
+pub mod CardTables
 pub mod Clashes
 pub mod Standing
 pub mod Orthogonality
@@ -22,3 +23,5 @@ pub mod Laid
 pub mod LaidBack
 pub mod ChecksBack
 pub mod CardLength
+pub mod Guaranteed
+pub mod Acceptance

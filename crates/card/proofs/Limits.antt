@@ -11,17 +11,17 @@ use lib.Dec.{leb, eqb}
 use lib.Pow.{pow-pos}
 use borrow.Author.Tests.{ne-eqb}
 use Rattle.bits.proofs.Cases.{picked}
-use Rattle.card.specs.Fields.{Head, Stream, Fields, codeOf}
-use Rattle.card.specs.Reading.{Read, kField, nField, mapField, standingMask, readMasks, readRows, readGenerators, readChecks, readStreams, readFields}
+use Rattle.card.specs.Fields.{Stream, Fields, codeOf}
+use Rattle.card.specs.Reading.{kField, nField, mapField, standingMask, readMasks, readRows, readGenerators, readChecks, readStreams, readFields}
 use Rattle.card.specs.Reading.Field.{value, bad}
 use Rattle.card.specs.Reading.Read.{got}
-use Rattle.card.specs.Layout.{MasksIn, AllMasksIn, StreamIn, AllStreamsIn, InLimits}
+use Rattle.card.specs.Layout.{MasksIn, AllMasksIn, AllStreamsIn, InLimits}
 use Rattle.card.specs.declared.Card.{Card}
 use Rattle.card.proofs.FieldValues.{not-value, value-same, byte-is, k-is, n-is, mask-is}
 use Rattle.card.proofs.ReadParts.{got-what, field-got, next-got, map-got, head-is}
 use Rattle.card.proofs.Standing.{ChecksStand}
 use Rattle.card.proofs.Orthogonality.{AllStand}
-use Rattle.card.proofs.WholeReading.{CheckIs, check-is, FieldsAre, fields-are}
+use Rattle.card.proofs.WholeReading.{check-is, fields-are}
 
 -- ---- no bit above m
 pub within-of-top : (v m : ℕ) → v / 2 ^ m ≤ 1 → v < 2 ^ (m + 1)

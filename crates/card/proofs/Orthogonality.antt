@@ -5,13 +5,14 @@ use mathlib.Core.List.{List, [], _∷_}
 use native.Mathlib.Omega.{arith}
 use lib.ListN.{length, getD}
 use Rattle.card.specs.Code.{generator}
-use Rattle.card.specs.Checks.{count, checkMask, touchesInfo, touchesBy, touches, Orthogonal}
+use Rattle.card.specs.Checks.{count, checkMask, touchesInfo, touchesBy, touches}
 use Rattle.card.specs.Fields.{Stream, Fields, codeOf, cardOf}
 use Rattle.card.specs.Reading.{maskAt}
-use Rattle.card.specs.Layout.{StreamIn, InLimits, TrulyOrthogonal}
+use Rattle.card.specs.Layout.{InLimits, TrulyOrthogonal}
 use Rattle.card.specs.declared.Card.{Card}
 use Rattle.card.proofs.Touches.{touches-same}
-use Rattle.card.proofs.Stores.{noStream, stream-in, count-at, check-at}
+use Rattle.card.proofs.Stores.{noStream}
+use Rattle.card.proofs.CardTables.{streamOf, count-stated, mask-stated, stream-stated}
 use Rattle.card.proofs.Standing.{ChecksStand, touchesAt, ListOrthogonal, standing-orthogonal, orthogonal-standing}
 
 -- ---- every stream
@@ -36,29 +37,17 @@ module _ (c : Card) where
 module _ (f : Fields) (w : InLimits f) where
   -- the masks of the checks of stream i
   abbrev checksOf : ℕ → List (List ℕ)
-  checksOf i = getD (f .streams) i noStream .checks
+  checksOf i = streamOf f i .checks
 
   abbrev code : Card
   code = codeOf (f .head) (f .rows)
 
-  p-most : f .head .n - f .head .k ≤ 8
-  p-most = let n = w .n-most in omega arith
-
-  few-streams : length (f .streams) ≤ 4
-  few-streams = let e = w .stream-count in let k = w .k-most in omega arith
-
-  mask-listed : (i q j : ℕ) → q < 16 → j < 8 → checkMask (cardOf f) i q j ≡ maskAt (getD (checksOf i) q []) j
-  unfolding checkMask cardOf
-  mask-listed i q j h k = check-at (f .head .n - f .head .k) (f .head .m) p-most (f .streams) (w .streams-in) few-streams i q j h k
-
-  count-listed : (i : ℕ) → i < f .head .k → (count (cardOf f) i ≡ length (checksOf i)) × (length (checksOf i) ≤ 16)
-  unfolding count cardOf
-  count-listed i h =
-      let e = w .stream-count in
-      let s = stream-in (f .head .n - f .head .k) (f .head .m) (f .streams) (w .streams-in) i (omega arith) in
-      let most = s .J-most in
-      let many = s .many in
-      (count-at (f .streams) few-streams i ∙ sym many, omega arith)
+  count-listed : (i : ℕ) → (count (cardOf f) i ≡ length (checksOf i)) × (length (checksOf i) ≤ 16)
+  count-listed i =
+      let s = stream-stated f w i in
+      let many = s .0 in
+      let most = s .1 in
+      (count-stated f w i ∙ sym many, omega arith)
 
   -- the checks do not change the code
   touches-code : (mask : ℕ → ℕ) (b s : ℕ) → touchesBy (cardOf f) mask b s ≡ touchesBy code mask b s
@@ -69,13 +58,13 @@ module _ (f : Fields) (w : InLimits f) where
   unfolding touches
   touches-listed i q b s h l =
       touches-code (checkMask (cardOf f) i q) b s
-      ∙ touches-same code (checkMask (cardOf f) i q) (maskAt (getD (checksOf i) q [])) b s (λ j k. mask-listed i q j h (let p = p-most in omega arith)) l
+      ∙ touches-same code (checkMask (cardOf f) i q) (maskAt (getD (checksOf i) q [])) b s (λ j k. mask-stated f w i q j h (omega arith)) l
 
   pub standing-truly : AllStand code 0 (f .streams) → TrulyOrthogonal f
   unfolding cardOf
   standing-truly a i h =
       let e = w .stream-count in
-      let n = count-listed i h in
+      let n = count-listed i in
       let o = standing-orthogonal code i (checksOf i) (stand-at code 0 (f .streams) a i i (omega arith) (omega arith)) in
       record {
         own = λ q l. touches-listed i q 0 i (omega arith) (omega arith) ∙ o .own q (omega arith);
@@ -87,7 +76,7 @@ module _ (f : Fields) (w : InLimits f) where
   truly-listed : TrulyOrthogonal f → (i : ℕ) → i < f .head .k → ListOrthogonal code i (checksOf i)
   unfolding cardOf
   truly-listed o i h =
-      let n = count-listed i h in
+      let n = count-listed i in
       record {
         own = λ q l. sym (touches-listed i q 0 i (omega arith) (omega arith)) ∙ o i h .own q (omega arith);
         apart = λ b s q r lb ls other l lr t t₁.

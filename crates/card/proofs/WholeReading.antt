@@ -1,5 +1,5 @@
 -- What is known where a check, and where a whole card, was read.
-use Prim.Native.Nat.{ℕ, _+_, _-_, _*_, _^_, _≤_}
+use Prim.Native.Nat.{ℕ, _+_, _-_, _^_, _≤_}
 use mathlib.Core.Path.{_≡_, refl, sym, ap, subst, _∙_}
 use mathlib.Core.List.{List}
 use mathlib.Core.Logic.{⊎-elim}
@@ -8,9 +8,8 @@ use lib.ListN.{length}
 use lib.Dec.{ltb, eqb}
 use borrow.Author.Tests.{eqb-true, ltb-false}
 use Rattle.bits.proofs.Cases.{picked}
-use Rattle.card.specs.Outcome.{CardOutcome}
 use Rattle.card.specs.Outcome.Outcome.{accepted, refused}
-use Rattle.card.specs.Fields.{Head, Stream, Fields, codeOf, cardOf}
+use Rattle.card.specs.Fields.{Fields, codeOf, cardOf}
 use Rattle.card.specs.Reading.{Read, byteField, readHead, readMasks, readGenerators, judge, readCheck, readStreams, readFields, answer, readCard}
 use Rattle.card.specs.Reading.Field.{value}
 use Rattle.card.specs.Reading.Read.{got, fault}
