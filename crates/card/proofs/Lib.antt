@@ -16,3 +16,18 @@ pub mod Judging
 pub mod RestChecks
 pub mod CheckLoops
 pub mod WholeCard
+-- accepted exactly when
+pub mod Stores
+pub mod CardTables
+pub mod Clashes
+pub mod Standing
+pub mod Orthogonality
+pub mod WholeReading
+pub mod Limits
+pub mod LayoutLaws
+pub mod Laid
+pub mod LaidBack
+pub mod ChecksBack
+pub mod CardLength
+pub mod Guaranteed
+pub mod Acceptance
