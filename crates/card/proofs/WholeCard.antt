@@ -40,7 +40,7 @@ module _ {X : Type 0} (f : X → Card) (r : Part) (rd : Read X) (e : partOf r �
           record { what = x; where₁ = at; read = q; at-is = ap (λ (p : PartOutcome). p .at) w; card-is = ap (λ (p : PartOutcome). p .card) w }
       go (fault n o) q =
           let w : accepted ≡ refused n o =
-              sym (ap outcomeOf v) ∙ ap (λ (p : PartOutcome). p .outcome) (e ∙ ap (after (λ x at. record { outcome = accepted; at = at; card = f x }) refusedPart) q) in
+          sym (ap outcomeOf v) ∙ ap (λ (p : PartOutcome). p .outcome) (e ∙ ap (after (λ x at. record { outcome = accepted; at = at; card = f x }) refusedPart) q) in
           let z : _≡_ {A = ℕ} 0 1 = cc in
           absurd (omega arith)
 
@@ -50,12 +50,12 @@ module _ {X : Type 0} (f : X → Card) (r : Part) (rd : Read X) (e : partOf r �
       go : (y : Read X) → rd ≡ y → rd ≡ fault (numberOf x) o
       go (got y at) q =
           let w : refused (numberOf x) o ≡ accepted =
-              sym (ap outcomeOf v) ∙ ap (λ (p : PartOutcome). p .outcome) (e ∙ ap (after (λ x at. record { outcome = accepted; at = at; card = f x }) refusedPart) q) in
+          sym (ap outcomeOf v) ∙ ap (λ (p : PartOutcome). p .outcome) (e ∙ ap (after (λ x at. record { outcome = accepted; at = at; card = f x }) refusedPart) q) in
           let z : _≡_ {A = ℕ} 0 1 = cc in
           absurd (omega arith)
       go (fault n p) q =
           let w : refused (numberOf x) o ≡ refused n p =
-              sym (ap outcomeOf v) ∙ ap (λ (p : PartOutcome). p .outcome) (e ∙ ap (after (λ x at. record { outcome = accepted; at = at; card = f x }) refusedPart) q) in
+          sym (ap outcomeOf v) ∙ ap (λ (p : PartOutcome). p .outcome) (e ∙ ap (after (λ x at. record { outcome = accepted; at = at; card = f x }) refusedPart) q) in
           let a : numberOf x ≡ n = cc in
           let b : o ≡ p = cc in
           q ∙ ap (λ y. fault y p) (sym a) ∙ ap (λ y. fault (numberOf x) y) (sym b)

@@ -95,19 +95,28 @@ pub fn read_card(bytes: &[u8]) -> CardRead
 {
     let head = parts::read_head(bytes);
     let head_verdict = head.verdict;
-    if let Verdict::Refused { refusal: _, offset: _ } = head_verdict {
+    if let Verdict::Refused {
+        refusal: _,
+        offset: _,
+    } = head_verdict {
         return refused(head_verdict);
     }
     let head_card = head.card;
     let code = parts::read_generators(bytes, head.at, head_card);
     let code_verdict = code.verdict;
-    if let Verdict::Refused { refusal: _, offset: _ } = code_verdict {
+    if let Verdict::Refused {
+        refusal: _,
+        offset: _,
+    } = code_verdict {
         return refused(code_verdict);
     }
     let code_card = code.card;
     let whole = checks::read_checks(bytes, code.at, code_card);
     let verdict = whole.verdict;
-    if let Verdict::Refused { refusal: _, offset: _ } = verdict {
+    if let Verdict::Refused {
+        refusal: _,
+        offset: _,
+    } = verdict {
         return refused(verdict);
     }
     if whole.at < bytes.len() {
