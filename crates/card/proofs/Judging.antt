@@ -1,18 +1,16 @@
 -- The judgement by masks is the definition's: the masks hold the errors that the checks touch, digit by digit.
-use Prim.Native.Nat.{ℕ, zero, suc, _+_, _-_, _*_, _/_, _%_, _^_, _≤_, _<_, max}
-use mathlib.Core.Path.{_≡_, refl, sym, ap, ap₂, subst, _∙_, fun-ext}
-use mathlib.Core.Bool.{Bool, true, false, cond}
+use Prim.Native.Nat.{ℕ, suc, _+_, _-_, _*_, _/_, _%_, _^_, _≤_, _<_, max}
+use mathlib.Core.Path.{_≡_, sym, ap, subst, _∙_, fun-ext}
 use mathlib.Core.List.{List, [], _∷_}
 use mathlib.Core.Logic.{_⊎_, inl, inr, ⊎-elim}
 use native.Mathlib.Numerals.{add-one}
 use native.Mathlib.Omega.{arith}
 use lib.ListN.{length, getD, replicate, List·getD-eq-default}
-use lib.Dec.{eqb, ltb}
-use borrow.Author.Tests.{eq-eqb, ne-eqb, lt-ltb, le-ltb, eqb-true, eqb-false}
+use borrow.Author.Tests.{eq-eqb, ne-eqb, lt-ltb, le-ltb}
 use Rattle.bits.specs.Sums.{sumBelow, back}
-use Rattle.bits.specs.Digits.{bit, dot, fromDigits}
-use Rattle.bits.proofs.Cases.{le-or-lt, same-or-not, digit-zero, cond-le}
-use Rattle.bits.proofs.Sums.{sum-same, sum-none, none-of-sum}
+use Rattle.bits.specs.Digits.{bit, dot}
+use Rattle.bits.proofs.Cases.{le-or-lt, same-or-not, digit-zero}
+use Rattle.bits.proofs.Sums.{sum-same}
 use Rattle.bits.proofs.Back.{sum-from}
 use Rattle.bits.proofs.Lists.{zeros-at}
 use Rattle.bits.proofs.Digits.{bit-le, bit-zero, bit-high, bit-of-zero, bit-from-digits, from-digits-lt}
@@ -124,8 +122,8 @@ module _ (c : Card) (n-most : c .k + c .p ≤ 8) (k-most : c .k ≤ 4) (m-most :
         none-shared e =
             shared-none touched (others errs i)
             (λ s b hs hb x y.
-              let o = other-only s b hs y in
-              clash-none c i b s (o .1 .0) (o .0) (o .1 .1 .0) earlier vs e (o .1 .1 .1) (u .only s b hs hb x .1 .1 .1))
+            let o = other-only s b hs y in
+            clash-none c i b s (o .1 .0) (o .0) (o .1 .1 .0) earlier vs e (o .1 .1 .1) (u .only s b hs hb x .1 .1 .1))
 
         union-more : Union c i (vs ∷ earlier) (joined touched (others errs i))
         unfolding touchedBy
