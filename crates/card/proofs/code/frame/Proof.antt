@@ -1,6 +1,6 @@
 -- The loop has put the parity digits that it passed after the information digits.
 use Prim.Native.Nat.{ℕ, _+_, _-_, _%_, _≤_, min}
-use mathlib.Core.Path.{_≡_, sym, ap, ap₂, _∙_}
+use mathlib.Core.Path.{_≡_, ap, ap₂, _∙_}
 use native.Mathlib.Omega.{arith}
 use lib.Pow.{pow-pos}
 use Rattle.bits.specs.Digits.{fromDigits, shiftUp}
