@@ -1,8 +1,9 @@
 -- A count and minus a refusal, as the machine's signed numbers of 32 digits.
-use Prim.Native.Nat.{ℕ, zero, suc, _<_}
-use mathlib.Core.Path.{_≡_, sym, ap, ap₂, _∙_, subst}
+use Prim.Native.Nat.{ℕ, zero, suc, _^_, _<_}
+use mathlib.Core.Path.{_≡_, sym, ap, _∙_, subst}
 use native.Mathlib.Omega.{arith}
 use lib.IntN.{ℤ, pos, negℤ, _-ℤ_, +ℤ-idl}
+use lib.Signed.{mag}
 use mir.Syntax.{w32}
 use mir.Val.{SFits, toZ, ofZ}
 use mir.Facts.{toZ-pos, toZ-ofZ}
@@ -19,3 +20,7 @@ minus-fits n h = subst (SFits w32) (sym (minus-number n h)) (small n h)
 
 pub minus-is : (n : ℕ) → n < 256 → toZ w32 (ofZ w32 (toZ w32 0 -ℤ toZ w32 n)) ≡ negℤ (pos n)
 minus-is n h = toZ-ofZ {w = w32} (minus-fits n h) ∙ minus-number n h
+
+-- an answer that a callee gave is read back from its digits
+pub answer-is : (z : ℤ) {y : ℤ} → mag z < 2 ^ 31 → z ≡ y → toZ w32 (ofZ w32 z) ≡ y
+answer-is z h e = toZ-ofZ {w = w32} (record { sfits = h }) ∙ e

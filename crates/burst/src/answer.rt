@@ -3,7 +3,6 @@ ghost use mathlib.Core.Path.{_≡_};
 ghost use Prim.Native.Nat.{_≤_};
 ghost use lib.IntN.{pos, negℤ};
 ghost use Rattle.card.specs.Refusals.{numberOf};
-
 use card::Refusal;
 
 pub fn refused(refusal: Refusal) -> i32

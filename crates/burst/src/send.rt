@@ -4,8 +4,14 @@ ghost use mathlib.Core.List.{_++_};
 ghost use Prim.Native.Nat.{_+_, _≤_};
 ghost use lib.ListN.{length, getD, drop};
 ghost use Rattle.card.specs.Code.{sent};
+ghost use Rattle.card.specs.Guarantees.{Guarantees};
 ghost use Rattle.card.specs.declared.Card.{Card};
-ghost use Rattle.burst.specs.Sending.{Names};
+ghost use Rattle.burst.specs.Outcome.{outcome};
+ghost use Rattle.burst.specs.Sending.{Names, sendUnder};
+use crate::answer::frames;
+use crate::answer::refused;
+use card::Card;
+use card::Refusal;
 
 // The information frame of time `at`, zero after the last one: the tail's.
 fn information(input: &[u8], at: usize) -> u32
@@ -39,4 +45,25 @@ fn send_frames(
         output[at] = card::code::frame(generators, &registers, k, p, info) as u8;
         at += 1;
     }
+}
+
+// A burst under an accepted card.
+fn send_under(card: Card, input: &[u8], output: &mut [u8]) -> i32
+    requires { ⌜ Guarantees card ⌝ }
+    ensures { λ r. ⌜ outcome r (now (output .exit)) ≡ sendUnder card (now (input .entry)) (now (output .entry)) ⌝ }
+{
+    let m = card.m;
+    let count = input.len() + m;
+    if 1048576 < count {
+        return refused(Refusal::TooManyFrames);
+    }
+    if output.len() < count {
+        return refused(Refusal::OutputTooShort);
+    }
+    if bits::any_beyond(input, card.k) {
+        return refused(Refusal::DigitBeyondStreams);
+    }
+    let generators = card.generators;
+    send_frames(&generators, card.k, card.p, m, input, output);
+    frames(count)
 }

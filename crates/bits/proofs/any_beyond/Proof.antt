@@ -44,7 +44,7 @@ loop-again c =
     let l = c .before .before .before .before .loop in (
       omega arith,
       l .inv .1 ∙ any-beyond-next (a .n) (a .frames .now) (l .i) (c .before .before .before .loop-test .taken)
-      ∙ ap (λ (b : Bool). b || anyBeyond (a .n) (drop (l .i + 1) (a .frames .now))) (sym (c .before .beyond .ensures) ∙ c .if1 .left),
+          ∙ ap (λ (b : Bool). b || anyBeyond (a .n) (drop (l .i + 1) (a .frames .now))) (sym (c .before .beyond .ensures) ∙ c .if1 .left),
     )
 
 returns-2 : tie.Need-returns-2 Inv-loop μ-loop

@@ -61,8 +61,8 @@ loop-again c =
       omega arith,
       length-set (l .output) (l .at) (c .frame .result) ∙ l .inv .1,
       λ card names.
-      sent-turn card (a .generators .now) (a .k) (a .p) (a .m) names (a .input .now) (a .output .now) (l .at) (info .result) (c .frame .result) (l .registers) (next .result) (l .output)
-      (omega arith) (info .ensures) (next .ensures) (c .frame .ensures) (l .inv .2 card names),
+          sent-turn card (a .generators .now) (a .k) (a .p) (a .m) names (a .input .now) (a .output .now) (l .at) (info .result) (c .frame .result) (l .registers) (next .result) (l .output)
+          (omega arith) (info .ensures) (next .ensures) (c .frame .ensures) (l .inv .2 card names),
     )
 
 same-length : tie.Need-same-length Inv-loop μ-loop
