@@ -10,13 +10,14 @@ use native.Mathlib.Omega.{arith}
 use lib.ListN.{length, getD, take, drop, replicate, length-append, length-drop, List·getD-eq-default}
 use lib.Seq.{drop-cons, length-take-le, take-all}
 use borrow.Author.Tests.{leb-false}
-use Rattle.bits.proofs.Lists.{upTo-length, upTo-at, dropped-head, dropped-rest, dropped-within}
+use Rattle.bits.proofs.Lists.{dropped-head, dropped-rest, dropped-within}
 use Rattle.card.specs.Code.{withTail, sentFrame, sent}
 use Rattle.card.specs.Guarantees.{Guarantees}
 use Rattle.card.specs.Registers.{historyBy}
 use Rattle.card.specs.declared.Card.{Card}
 use Rattle.card.proofs.Registers.{HistoryBefore, history-start}
 use Rattle.card.proofs.Sending.{turn-history, turn-frame}
+use Rattle.card.proofs.Sent.{sent-length, sent-at}
 use Rattle.encoder.specs.Sending.{openOf, historyNext, encodedOf, tailOut}
 use Rattle.encoder.specs.Calls.{Call, information, tail, framesGiven, informationTaken, tailTaken}
 use Rattle.encoder.specs.Claims.{Claims}
@@ -56,10 +57,8 @@ carry-sent c stream t t′ x info n s s′ call calls w d one q r =
 
 module _ (c : Card) (G : Guarantees c) (info : List ℕ) where
   stream-from : (t t′ x : ℕ) → t < length info + c .m → t′ ≡ suc t → x ≡ sentFrame c (withTail c info) t → drop t (sent c info) ≡ x ∷ drop t′ (sent c info)
-  unfolding sent
   stream-from t t′ x l q e =
-      drop-cons (sent c info) t 0 (omega (arith, upTo-length (length info + c .m) (sentFrame c (withTail c info))))
-      ∙ ap₂ (λ (y n : ℕ). y ∷ drop n (sent c info)) (upTo-at (length info + c .m) (sentFrame c (withTail c info)) t l ∙ sym e) (sym q)
+      drop-cons (sent c info) t 0 (omega (arith, sent-length c info)) ∙ ap₂ (λ (y n : ℕ). y ∷ drop n (sent c info)) (sent-at c info t l ∙ sym e) (sym q)
 
   follow : (calls : List Call) (n v : ℕ) (h : List ℕ) → n ≤ length info → v ≤ c .m → HistoryBefore c (withTail c info) (n + v) h
       → drop n info ≡ informationTaken (session c h n v) calls → Followed c (sent c info) (n + v) calls (session c h n v)
@@ -118,18 +117,17 @@ module _ (c : Card) (G : Guarantees c) (calls : List Call) where
   sent-first = from-start .frames-are
 
   counted : length (framesGiven (openOf c) calls) ≡ length (informationTaken (openOf c) calls) + tailTaken (openOf c) calls
-  unfolding sent openOf
+  unfolding openOf
   counted =
       let info = informationTaken (openOf c) calls in
       let n = length info + tailTaken (openOf c) calls in
-      ap length sent-first ∙ length-take-le n (sent c info) (omega (arith, from-start .tail-most, upTo-length (length info + c .m) (sentFrame c (withTail c info))))
+      ap length sent-first ∙ length-take-le n (sent c info) (omega (arith, from-start .tail-most, sent-length c info))
 
   whole : tailTaken (openOf c) calls ≡ c .m → framesGiven (openOf c) calls ≡ sent c (informationTaken (openOf c) calls)
-  unfolding sent
   whole e =
       let info = informationTaken (openOf c) calls in
       let n = length info + tailTaken (openOf c) calls in
-      sent-first ∙ take-all n (sent c info) (omega (arith, upTo-length (length info + c .m) (sentFrame c (withTail c info))))
+      sent-first ∙ take-all n (sent c info) (omega (arith, sent-length c info))
 
 pub calls-follow-code : (c : Card) → Guarantees c → Claims c (openOf c)
 calls-follow-code c G =

@@ -1,6 +1,6 @@
 -- For whatever card has this table and these numbers: the registers hold its digits before time `at`, and the output the frames that it sends
 -- before then.
-use Prim.Native.Nat.{_+_, _-_, _≤_}
+use Prim.Native.Nat.{_-_, _≤_}
 use mathlib.Core.Path.{_≡_, refl, _∙_}
 use native.Mathlib.Omega.{arith}
 use lib.ListN.{length, length-set}
