@@ -37,10 +37,10 @@ fn send_frames(
     requires { ⌜ length (now input) + m ≤ length (now output) ⌝ }
     ensures { λ _. ⌜ ((c : Card) → Names c (now (generators .entry)) k p m → now (output .exit) ≡ sent c (now (input .entry)) ++ drop (length (now (input .entry)) + m) (now (output .entry))) ⌝ }
 {
-    let count = input.len() + m;
+    let end = input.len() + m;
     let mut registers = [0u32; 4];
     let mut at = 0;
-    while at < count {
+    while at < end {
         let info = information(input, at);
         registers = card::code::history(&registers, k, info);
         output[at] = card::code::frame(generators, &registers, k, p, info) as u8;

@@ -1,8 +1,7 @@
 -- An opened session: with an accepted card the calls follow the code, with a refused one every call is refused.
 use Prim.Native.Nat.{ℕ}
-use mathlib.Core.Path.{_≡_, refl, sym, ap, ap₂, _∙_, subst}
+use mathlib.Core.Path.{_≡_, refl, sym, ap, _∙_, subst}
 use mathlib.Core.List.{List}
-use Rattle.card.specs.Fields.{emptyCard}
 use Rattle.card.specs.Outcome.{Outcome, accepted, refused, outcomeOf, CardOutcome}
 use Rattle.card.specs.Promise.{CardPromise}
 use Rattle.card.specs.Reading.{readCard}
@@ -12,7 +11,6 @@ use Rattle.card.proofs.RefusedCard.{not-both, refused-card}
 use Rattle.encoder.specs.Claims.{Claims}
 use Rattle.encoder.specs.Opening.{closed, sessionFor, Closed, OpenPromise}
 use Rattle.encoder.specs.Sending.{unsentOf, openOf}
-use Rattle.encoder.specs.declared.Opened.{Opened}
 use Rattle.encoder.specs.declared.Session.{Session}
 use Rattle.encoder.proofs.Claim.{calls-follow-code}
 use Rattle.encoder.proofs.Outcomes.{send-full, tail-out}
