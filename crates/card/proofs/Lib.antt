@@ -3,6 +3,7 @@ pub mod Frames
 pub mod Parity
 pub mod Sent
 pub mod Registers
+pub mod Sending
 pub mod Touches
 -- reading
 pub mod Numbers
@@ -16,6 +17,7 @@ pub mod Judging
 pub mod RestChecks
 pub mod CheckLoops
 pub mod WholeCard
+pub mod RefusedCard
 -- accepted exactly when
 pub mod Stores
 pub mod CardTables

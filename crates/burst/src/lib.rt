@@ -1,0 +1,3 @@
+// Whole bursts of frames, for the controller firmware.
+mod answer;
+pub mod send;

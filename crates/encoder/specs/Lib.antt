@@ -1,0 +1,5 @@
+pub mod Outcome
+pub mod Sending
+pub mod Calls
+pub mod Claims
+pub mod Opening
