@@ -1,0 +1,2 @@
+// Whole bursts of frames, for the controller firmware.
+pub mod receive;
