@@ -1,1 +1,2 @@
 pub mod TakingIn
+pub mod Voting

@@ -50,10 +50,13 @@ checkBy checks at syndromes p = sumBelow p (λ j. dot (getD checks (at + j) 0) (
 unfoldable pub votesBy : List ℕ → ℕ → ℕ → List ℕ → ℕ → ℕ
 votesBy checks i n syndromes p = sumBelow n (λ q. checkBy checks (i * 128 + q * 8) syndromes p)
 
+-- 1 if more than half of the checks of stream i are
+unfoldable pub majorityBy : List ℕ → List ℕ → List ℕ → ℕ → ℕ → ℕ
+majorityBy counts checks syndromes p i = cond (ltb (getD counts i 0) (2 * votesBy checks i (getD counts i 0) syndromes p)) 1 0
+
 -- the errors decided
 unfoldable pub decideBy : List ℕ → List ℕ → List ℕ → ℕ → ℕ → ℕ
-decideBy counts checks syndromes k p =
-    fromDigits k (λ i. cond (ltb (getD counts i 0) (2 * votesBy checks i (getD counts i 0) syndromes p)) 1 0)
+decideBy counts checks syndromes k p = fromDigits k (majorityBy counts checks syndromes p)
 
 -- syndrome register j with the errors e taken out
 unfoldable pub takenOut : List ℕ → List ℕ → ℕ → ℕ → ℕ
