@@ -1,5 +1,7 @@
 -- Votes: the ones of words added up by exclusive or, checks as the digits of a word, and the places of the decided errors.
-use Prim.Native.Nat.{ℕ, suc, _+_, _*_, _/_, _%_, _^_, _≤_, _<_}
+use Prim.Native.Nat.{ℕ, suc, _+_, _*_, _/_, _%_, _^_, _≤_, _<_, zero-le}
+use mathlib.Core.Bool.{cond}
+use borrow.Author.Tests.{le-ltb}
 use mathlib.Core.Path.{_≡_, sym, ap, ap₂, _∙_}
 use native.Mathlib.Nat.{mod-lt, zero-lt-suc}
 use native.Mathlib.Numerals.{add-one}
@@ -11,9 +13,9 @@ use lib.Dec.{ltb}
 use lib.Count.{ones, ones-step}
 use Rattle.bits.specs.Sums.{sumBelow}
 use Rattle.bits.specs.Digits.{bit, dot, fromDigits, shiftUp}
-use Rattle.bits.proofs.Sums.{sum-mod, sum-cong, sum-add, sum-more}
+use Rattle.bits.proofs.Sums.{sum-mod, sum-cong, sum-add, sum-more, sum-none}
 use Rattle.bits.proofs.Cases.{cond-le}
-use Rattle.bits.proofs.Digits.{bit-and, bit-xor, ones-sum, from-digits-lt}
+use Rattle.bits.proofs.Digits.{bit-and, bit-xor, bit-of-zero, ones-sum, from-digits-lt}
 use Rattle.bits.proofs.Words.{shift-digit}
 use Rattle.burst.specs.Receiving.{checkBy, votesBy, majorityBy, decideBy}
 
@@ -67,3 +69,22 @@ module _ (counts checks syndromes : List ℕ) (p : ℕ) where
   errors-more i {e} {d} h q r =
       ap₂ (λ x y. x + shiftUp y i) q r ∙ ap (λ x. fromDigits i (majorityBy counts checks syndromes p) + x) (shift-digit _ i (majority-lt i) h)
       ∙ sym (sum-more i (λ a. majorityBy counts checks syndromes p a * 2 ^ a))
+
+  -- registers that hold no 1 vote for nothing
+  module _ (none : (j : ℕ) → j < p → getD syndromes j 0 ≡ 0) where
+    check-none : (at : ℕ) → checkBy checks at syndromes p ≡ 0
+    unfolding checkBy dot
+    check-none at =
+        ap (λ n. n % 2)
+        (sum-none p (λ j. dot (getD checks (at + j) 0) (getD syndromes j 0))
+        (λ j l. ap (λ y. dot (getD checks (at + j) 0) y) (none j l) ∙ sum-none 32 _ (λ a q. ap (λ d. bit (getD checks (at + j) 0) a * d) (bit-of-zero a) ∙ omega arith)))
+
+    majority-none : (i : ℕ) → majorityBy counts checks syndromes p i ≡ 0
+    unfolding majorityBy votesBy
+    majority-none i =
+        let z : 2 * sumBelow (getD counts i 0) (λ q. checkBy checks (i * 128 + q * 8) syndromes p) ≡ 0 = omega (arith, sum-none (getD counts i 0) _ (λ q l. check-none (i * 128 + q * 8))) in
+        ap (λ n. cond (ltb (getD counts i 0) n) 1 0) z ∙ ap (λ b. cond b 1 0) (le-ltb (getD counts i 0) 0 zero-le)
+
+    pub decide-none : (k : ℕ) → decideBy counts checks syndromes k p ≡ 0
+    unfolding decideBy fromDigits
+    decide-none k = sum-none k _ (λ i l. ap (λ d. d * 2 ^ i) (majority-none i) ∙ omega arith)

@@ -4,6 +4,7 @@
 use Prim.Native.Nat.{ℕ, _+_, _*_, _/_, _%_, _^_, _<_}
 use mathlib.Core.Path.{_≡_}
 use mathlib.Core.Bool.{cond}
+use mathlib.Core.Logic.{_⊎_}
 use mathlib.Core.List.{List, _++_}
 use lib.ListN.{getD, drop}
 use lib.Bits.{bitXor}
@@ -61,3 +62,8 @@ decideBy counts checks syndromes k p = fromDigits k (majorityBy counts checks sy
 -- syndrome register j with the errors e taken out
 unfoldable pub takenOut : List ℕ → List ℕ → ℕ → ℕ → ℕ
 takenOut sums syndromes e j = bitXor (getD syndromes j 0) (getD sums (e * 8 + j) 0)
+
+-- the errors decided, and the registers after them: as they were if there are none, else with the errors taken out
+pub record Corrected (sums counts checks syndromes : List ℕ) (k p : ℕ) (after : List ℕ) (errors : ℕ) : Type 0 where
+  pub errors-are : errors ≡ decideBy counts checks syndromes k p
+  pub after-is : ((errors ≡ 0) × (after ≡ syndromes)) ⊎ (after ≡ written p (takenOut sums syndromes errors) syndromes)

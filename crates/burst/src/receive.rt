@@ -9,7 +9,7 @@ ghost use lib.Bits.{bitAnd, bitXor};
 ghost use lib.Dec.{ltb};
 ghost use mathlib.Core.Bool.{cond};
 ghost use Rattle.bits.specs.Digits.{shiftUp};
-ghost use Rattle.burst.specs.Receiving.{generatorSum, generatorSums, TakenIn, written, checkBy, votesBy, decideBy, takenOut};
+ghost use Rattle.burst.specs.Receiving.{generatorSum, generatorSums, TakenIn, written, checkBy, votesBy, decideBy, takenOut, Corrected};
 
 fn wide(x: u8) -> u32
     ensures { λ r. ⌜ r ≡ x ⌝ }
@@ -162,4 +162,27 @@ fn take_out(syndromes: &mut [u32; 8], sums: &[u32; 128], p: usize, errors: u32)
         syndromes[j] = syndromes[j] ^ sums[at + j];
         j += 1;
     }
+}
+
+// The errors of the frame m before the last one taken in, decided and fed back. While no syndrome held is 1 there is no vote.
+fn correct(
+    syndromes: &mut [u32; 8],
+    held: u32,
+    sums: &[u32; 128],
+    counts: &[usize; 4],
+    checks: &[u32; 512],
+    k: usize,
+    p: usize,
+) -> u32
+    requires { ⌜ (k ≤ 4) × (p ≤ 8) × ((i : ℕ) → getD (now counts) i 0 ≤ 16) × (length (now syndromes) ≡ 8) × (held ≡ 0 → (j : ℕ) → j < p → getD (now syndromes) j 0 ≡ 0) ⌝ }
+    ensures { λ r. ⌜ Corrected (now (sums .entry)) (now (counts .entry)) (now (checks .entry)) (now (syndromes .entry)) k p (now (syndromes .exit)) r ⌝ }
+{
+    if held == 0 {
+        return 0;
+    }
+    let errors = decide(counts, checks, syndromes, k, p);
+    if errors != 0 {
+        take_out(syndromes, sums, p, errors);
+    }
+    errors
 }
