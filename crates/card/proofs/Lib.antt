@@ -1,1 +1,4 @@
 pub mod Registers
+pub mod Frames
+pub mod Parity
+pub mod Sent
