@@ -2,3 +2,4 @@ pub mod Registers
 pub mod Frames
 pub mod Parity
 pub mod Sent
+pub mod Touches
