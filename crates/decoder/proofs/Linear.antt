@@ -100,12 +100,12 @@ module _ (c : Card) (frames xs errors : List ℕ) (w : ℕ → ℕ → ℕ) (u :
       → cleared c frames errors (u + a) j % 2 ≡ (w (u + a) (c .k + j) + paritySum c (λ s b. w (u + b) s) j a) % 2
   unfolding cleared syndrome
   cleared-errors a j la lj =
-      rw (parity-sum c frames j (u + a), parity-sum c errors j (u + a))
-      (remainders (digit frames (c .k + j) (u + a)) (digit xs (c .k + j) (u + a)) (paritySum c (digit frames) j (u + a))
+      ap₂ (λ x y. ((digit frames (c .k + j) (u + a) + x) % 2 + y) % 2 % 2) (parity-sum c frames j (u + a)) (parity-sum c errors j (u + a))
+      ∙ remainders (digit frames (c .k + j) (u + a)) (digit xs (c .k + j) (u + a)) (paritySum c (digit frames) j (u + a))
       (paritySum c (digit xs) j (u + a)) (paritySum c (digit errors) j (u + a)) _ _
       (sent-parity a j la lj ∙ parity-sum c xs j (u + a))
       (is-wrong (u + a) (c .k + j))
-      (ap (λ x. x % 2) sums ∙ left))
+      (ap (λ x. x % 2) sums ∙ left)
     where
       sums : paritySum c (digit frames) j (u + a) + paritySum c (digit xs) j (u + a) + paritySum c (digit errors) j (u + a)
           ≡ paritySum c (λ i v. digit frames i v + digit xs i v + digit errors i v) j (u + a)

@@ -2,12 +2,8 @@
 -- Digits are counted by b, below B, and s, below S; check q touches the digit (b, s) if t q b s is 1, and the error of the digit is e b s.
 use Prim.Native.Nat.{ℕ, _+_, _-_, _*_, _%_, _≤_, _<_, min}
 use mathlib.Core.Path.{_≡_, sym, ap, _∙_}
-use mathlib.Core.Bool.{cond}
 use native.Mathlib.Nat.{le-trans, add-mul, one-mul, mul-one, mul-zero, mul-le-mul-right, le-of-eq}
 use native.Mathlib.Omega.{arith}
-use native.Mathlib.Decide.{decLt}
-use lib.Dec.{ltb}
-use borrow.Author.Tests.{lt-ltb, le-ltb}
 use Rattle.bits.specs.Sums.{sumBelow}
 use Rattle.bits.proofs.Sums.{sum-same, sum-cong, sum-add, sum-scale, sum-swap, sum-mono, sum-const, term-le-sum, sum-but-one}
 
@@ -27,7 +23,6 @@ module _ (J B S i : ℕ) (t : ℕ → ℕ → ℕ → ℕ) (e : ℕ → ℕ → 
     (some-check : 0 < J)
     (times : 0 < B)
     (own-stream : i < S)
-    (own-digit : e 0 i ≤ 1)
     (own : (q : ℕ) → q < J → t q 0 i ≡ 1)
     (others : (b s : ℕ) → b < B → s < S → (b ≡ 0 → s ≡ i → ⊥) → sumBelow J (λ q. t q b s) ≤ 1)
     (few : 2 * touchedSum B S (touchedByAny J t) e ≤ J) where
@@ -66,17 +61,19 @@ module _ (J B S i : ℕ) (t : ℕ → ℕ → ℕ → ℕ) (e : ℕ → ℕ → 
       (le-trans (term-le-sum S (λ s. t q 0 s * e 0 s) i own-stream)
       (term-le-sum B (λ b. sumBelow S (λ s. t q b s * e b s)) 0 times))
 
-  right-zero : e 0 i ≡ 0 → 2 * onesOf J B S t e ≤ J
+  -- where the digit is right, at most half of the checks are 1
+  pub few-ones : e 0 i ≡ 0 → 2 * onesOf J B S t e ≤ J
   unfolding onesOf
-  right-zero z =
+  few-ones z =
       let a = sum-mono J (λ q. touchedSum B S (t q) e % 2) (λ q. touchedSum B S (t q) e) (λ q l. omega arith) in
       let b = totals-le in
       let d : (J - 1) * e 0 i ≡ 0 = ap (λ x. (J - 1) * x) z ∙ mul-zero (J - 1) in
       omega arith
 
-  right-one : e 0 i ≡ 1 → J < 2 * onesOf J B S t e
+  -- where it is wrong, more than half
+  pub many-ones : e 0 i ≡ 1 → J < 2 * onesOf J B S t e
   unfolding onesOf
-  right-one z =
+  many-ones z =
       let a =
       sum-mono J (λ q. 2) (λ q. touchedSum B S (t q) e % 2 + touchedSum B S (t q) e)
       (λ q l. let o = own-in-total q l in omega arith) in
@@ -85,11 +82,3 @@ module _ (J B S i : ℕ) (t : ℕ → ℕ → ℕ → ℕ) (e : ℕ → ℕ → 
       let b = totals-le in
       let d : (J - 1) * e 0 i ≡ J - 1 = ap (λ x. (J - 1) * x) z ∙ mul-one (J - 1) in
       omega arith
-
-  -- the majority is the digit's error, and a tie is 0
-  pub majority : cond (ltb J (2 * onesOf J B S t e)) 1 0 ≡ e 0 i
-  majority = go (decLt 0 (e 0 i))
-    where
-      go : Dec (0 < e 0 i) → cond (ltb J (2 * onesOf J B S t e)) 1 0 ≡ e 0 i
-      go (yes l) = let z : e 0 i ≡ 1 = omega arith in rw (lt-ltb _ _ (right-one z)) (sym z)
-      go (no n) = let z : e 0 i ≡ 0 = omega arith in rw (le-ltb _ _ (right-zero z)) (sym z)

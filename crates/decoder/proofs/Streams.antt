@@ -1,26 +1,32 @@
 -- The streams of the rule: how many errors are decided and frames handed out, and that what is decided stays.
-use Prim.Native.Nat.{ℕ, zero, suc, _-_, _*_, _≤_, _<_}
+use Prim.Native.Nat.{ℕ, zero, suc, _-_, _≤_, _<_, min}
 use mathlib.Core.Path.{_≡_, refl, sym, ap, _∙_}
 use mathlib.Core.Logic.{⊎-elim}
+use mathlib.Core.Bool.{cond}
 use mathlib.Core.List.{List, [], _∷_}
 use native.Mathlib.Omega.{arith}
 use lib.ListN.{length, getD, length-append, List·getD-append}
 use lib.Seq.{getD-at}
 use lib.Dec.{ltb}
+use borrow.Author.Tests.{lt-ltb, le-ltb}
 use Rattle.bits.specs.Digits.{bit}
-use Rattle.bits.proofs.Cases.{last-or-below, cond-le}
+use Rattle.bits.proofs.Cases.{le-or-lt, last-or-below}
 use Rattle.bits.proofs.Digits.{bit-from-digits}
 use Rattle.bits.proofs.Lists.{upTo-length, upTo-at}
 use Rattle.card.specs.Code.{digit}
-use Rattle.card.specs.Checks.{count}
 use Rattle.card.specs.declared.Card.{Card}
 use Rattle.card.proofs.Frames.{digit-out}
-use Rattle.decoder.specs.Rule.{votes, decide, decideFrame, decided, corrected, decoded}
+use Rattle.decoder.specs.Rule.{decide, decideFrame, decided, corrected, decoded}
+
+-- the answer of a test as a number, which `omega` reads
+pub test-as-number : (x y : ℕ) → cond (ltb x y) 1 0 ≡ min 1 (y - x)
+test-as-number x y =
+    ⊎-elim (λ (l : y ≤ x). rw (le-ltb x y l) (omega arith)) (λ (l : x < y). rw (lt-ltb x y l) (omega arith)) (le-or-lt y x)
 
 module _ (c : Card) (frames : List ℕ) where
   pub decide-le : (errors : List ℕ) (u i : ℕ) → decide c frames errors u i ≤ 1
   unfolding decide
-  decide-le errors u i = cond-le (ltb (count c i) (2 * votes c frames errors u i)) 1 0 1 (omega arith) (omega arith)
+  decide-le errors u i = rw test-as-number (omega arith)
 
   -- the digits of a frame of decided errors
   pub decide-frame-bit : (errors : List ℕ) (u i : ℕ) → i < c .k → bit (decideFrame c frames errors u) i ≡ decide c frames errors u i

@@ -1,15 +1,15 @@
--- What comes out as sent: where at most half of the checks' number of digits is wrong among those that they touch, rounded down, each
--- information digit is handed out as it was sent.
+-- A correctable stream comes out as sent: the third term over the rule. If for each information digit the wrong digits among those that its
+-- checks touch are at most half of the checks, rounded down, then the frames handed out are the information frames.
 use Prim.Native.Nat.{ℕ, zero, suc, _+_, _-_, _*_, _%_, _^_, _≤_, _<_}
 use mathlib.Core.Path.{_≡_, refl, sym, ap, _∙_}
 use mathlib.Core.Logic.{⊎-elim}
-use mathlib.Core.Bool.{cond}
 use mathlib.Core.List.{List}
 use native.Mathlib.Nat.{add-zero, mod-eq-of-lt}
+use native.Mathlib.Decide.{decLt}
 use native.Mathlib.Omega.{arith}
 use lib.ListN.{length, getD}
 use lib.Seq.{ext-getD}
-use lib.Dec.{ltb}
+use Rattle.bits.specs.Sums.{sumBelow}
 use Rattle.bits.specs.Digits.{bit}
 use Rattle.bits.proofs.Sums.{sum-same, at-most-one}
 use Rattle.bits.proofs.Cases.{last-or-below}
@@ -23,8 +23,8 @@ use Rattle.card.proofs.Sent.{sent-info, sent-parity, with-tail-digit}
 use Rattle.card.proofs.Touches.{touches-le}
 use Rattle.decoder.specs.Rule.{checkAt, votes, decide, decided, corrected, decoded}
 use Rattle.decoder.specs.AsSent.{wrong, touched, wrongTouched, Correctable}
-use Rattle.decoder.proofs.Streams.{decided-digit, decided-none, decoded-length, decoded-at}
-use Rattle.decoder.proofs.Majority.{touchedSum, onesOf, touchedByAny, majority}
+use Rattle.decoder.proofs.Streams.{test-as-number, decided-digit, decided-none, decoded-length, decoded-at}
+use Rattle.decoder.proofs.Majority.{touchedSum, onesOf, touchedByAny, few-ones, many-ones}
 use Rattle.decoder.proofs.Linear.{check-errors}
 
 -- every error of the frames before u was decided rightly
@@ -49,34 +49,64 @@ right-check c info frames u lu before i q =
     check-errors c frames (sent c info) (decided c frames u) (wrong c info frames) u (λ v s. refl) before (decided-none c frames u)
     (λ a j la lj. sent-parity c info j (u + a) lj (omega arith)) i q
 
-module _ (c : Card) (G : Guarantees c) (info frames : List ℕ) (few : Correctable c info frames) where
+-- the digit i at u, with every error before u decided rightly
+module _ (c : Card) (G : Guarantees c) (info frames : List ℕ) (few : Correctable c info frames)
+    (u : ℕ) (lu : u < length info) (before : RightBefore c info frames u) (i : ℕ) (li : i < c .k) where
   -- the third term's condition, in the words of the majority
-  few-touched : (u : ℕ) → u < length info → (i : ℕ) → i < c .k
-      → 2 * touchedSum (suc (c .m)) (c .k + c .p) (touchedByAny (count c i) (touches c i)) (λ b s. wrong c info frames (u + b) s) ≤ count c i
+  few-touched : 2 * touchedSum (suc (c .m)) (c .k + c .p) (touchedByAny (count c i) (touches c i)) (λ b s. wrong c info frames (u + b) s) ≤ count c i
   unfolding wrongTouched touched touchedSum touchedByAny
-  few-touched u lu i li = let f = few u i lu li in omega arith
+  few-touched = let f = few u i lu li in omega arith
 
-  -- so the majority at u is the true error
-  right-decision : (u : ℕ) → u < length info → RightBefore c info frames u
-      → (i : ℕ) → i < c .k → decide c frames (decided c frames u) u i ≡ wrong c info frames u i
-  unfolding decide votes onesOf
-  right-decision u lu before i li =
-      ap (λ x. cond (ltb (count c i) (2 * x)) 1 0) (sum-same (count c i) _ _ (λ q lq. right-check c info frames u lu before i q))
-      ∙ majority (count c i) (suc (c .m)) (c .k + c .p) i (touches c i) (λ b s. wrong c info frames (u + b) s)
-      (G .J-least i li) (omega arith) (omega arith) (wrong-le c info frames (u + 0) i) (G .orthogonal i li .own)
-      (λ b s lb ls ne.
+  -- orthogonality, as a count
+  apart : (b s : ℕ) → b < suc (c .m) → s < c .k + c .p → (b ≡ 0 → s ≡ i → ⊥) → sumBelow (count c i) (λ q. touches c i q b s) ≤ 1
+  apart b s lb ls ne =
       at-most-one (count c i) (λ q. touches c i q b s) (λ q l. touches-le c i q b s)
-      (λ q r l l' e e'. G .orthogonal i li .apart b s q r (omega arith) ls ne l l' e e'))
-      (few-touched u lu i li)
-      ∙ ap (λ v. wrong c info frames v i) (add-zero u)
+      (λ q r l l' e e'. G .orthogonal i li .apart b s q r (omega arith) ls ne l l' e e')
 
-  -- and all decided errors are, one frame after the other
+  -- the votes are those of the true errors
+  votes-are : votes c frames (decided c frames u) u i ≡ onesOf (count c i) (suc (c .m)) (c .k + c .p) (touches c i) (λ b s. wrong c info frames (u + b) s)
+  unfolding votes onesOf
+  votes-are = sum-same (count c i) _ _ (λ q lq. right-check c info frames u lu before i q)
+
+  now : wrong c info frames (u + 0) i ≡ wrong c info frames u i
+  now = ap (λ v. wrong c info frames v i) (add-zero u)
+
+  -- so they are more than half of the checks exactly where the digit is wrong
+  few-votes : wrong c info frames u i ≡ 0 → 2 * votes c frames (decided c frames u) u i ≤ count c i
+  few-votes z =
+      rw votes-are
+      (few-ones (count c i) (suc (c .m)) (c .k + c .p) i (touches c i) (λ b s. wrong c info frames (u + b) s)
+      (G .J-least i li) (omega arith) (omega arith) (G .orthogonal i li .own) apart few-touched (now ∙ z))
+
+  many-votes : wrong c info frames u i ≡ 1 → count c i < 2 * votes c frames (decided c frames u) u i
+  many-votes z =
+      rw votes-are
+      (many-ones (count c i) (suc (c .m)) (c .k + c .p) i (touches c i) (λ b s. wrong c info frames (u + b) s)
+      (G .J-least i li) (omega arith) (omega arith) (G .orthogonal i li .own) apart few-touched (now ∙ z))
+
+  -- and the decision is the true error
+  right-decision : decide c frames (decided c frames u) u i ≡ wrong c info frames u i
+  unfolding decide
+  right-decision = go (decLt 0 (wrong c info frames u i))
+    where
+      go : Dec (0 < wrong c info frames u i) → decide c frames (decided c frames u) u i ≡ wrong c info frames u i
+      go (yes l) =
+          let z : wrong c info frames u i ≡ 1 = omega (arith, wrong-le c info frames u i) in
+          let more = many-votes z in
+          rw test-as-number (omega arith)
+      go (no n) =
+          let z : wrong c info frames u i ≡ 0 = omega arith in
+          let most = few-votes z in
+          rw test-as-number (omega arith)
+
+module _ (c : Card) (G : Guarantees c) (info frames : List ℕ) (few : Correctable c info frames) where
+  -- one frame after the other, all decided errors are the true ones
   right-decided : (u : ℕ) → u ≤ length info → RightBefore c info frames u
   right-decided zero l v i li lv = absurd (omega arith)
   right-decided (suc u) l v i li lv =
       decided-digit c frames (suc u) v i lv li
       ∙ ⊎-elim
-      (λ e. rw e (right-decision u (omega arith) (right-decided u (omega arith)) i li))
+      (λ e. rw e (right-decision c G info frames few u (omega arith) (right-decided u (omega arith)) i li))
       (λ below. sym (decided-digit c frames u v i below li) ∙ right-decided u (omega arith) v i li below)
       (last-or-below lv)
 
