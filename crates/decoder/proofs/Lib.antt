@@ -1,0 +1,4 @@
+pub mod Streams
+pub mod Majority
+pub mod Linear
+pub mod Theorem
