@@ -1,2 +1,4 @@
 pub mod TakingIn
 pub mod Voting
+pub mod Coming
+pub mod Following
