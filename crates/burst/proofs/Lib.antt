@@ -2,3 +2,4 @@ pub mod TakingIn
 pub mod Voting
 pub mod Coming
 pub mod Following
+pub mod Deciding
