@@ -3,3 +3,4 @@ pub mod Voting
 pub mod Coming
 pub mod Following
 pub mod Deciding
+pub mod Waiting
