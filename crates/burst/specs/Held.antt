@@ -10,8 +10,10 @@ use lib.Dec.{leb, ltb}
 use Rattle.bits.specs.Sums.{sumBelow, back}
 use Rattle.bits.specs.Digits.{bit}
 use Rattle.card.specs.Code.{generator, digit}
+use Rattle.card.specs.Guarantees.{Guarantees}
 use Rattle.card.specs.declared.Card.{Card}
 use Rattle.decoder.specs.Rule.{cleared, decided}
+use Rattle.burst.specs.Receiving.{generatorSums}
 
 -- the part of parity digit j at t + a that the information digits of times before t give
 unfoldable pub comingAt : Card → List ℕ → ℕ → ℕ → ℕ → ℕ
@@ -30,3 +32,17 @@ pub record Before (c : Card) (frames : List ℕ) (t : ℕ) (coming syndromes : L
 pub record With (c : Card) (frames : List ℕ) (t : ℕ) (coming syndromes : List ℕ) : Type 0 where
   pub coming-at : (j a : ℕ) → j < c .p → bit (getD coming j 0) a ≡ comingAt c frames (suc t) j a
   pub held-at : (j a : ℕ) → j < c .p → bit (getD syndromes j 0) a ≡ cond (leb a (c .m)) (syndromeHeld c frames t j a) 0
+
+-- the card with these tables
+abbrev pub cardOf : ℕ → ℕ → ℕ → ℕ → List ℕ → List ℕ → List ℕ → Card
+cardOf number k p m generators counts checks =
+    record { number = number; k = k; p = p; m = m; generators = generators; counts = counts; checks = checks }
+
+-- for every card with these tables: registers that were ready for the frame of time s are ready for that of time t now
+abbrev pub Carried : List ℕ → ℕ → ℕ → ℕ → List ℕ → ℕ → ℕ → List ℕ → List ℕ → List ℕ → List ℕ → Type 0
+Carried sums k p m frames s t coming₀ syndromes₀ coming syndromes =
+    (number : ℕ) (generators counts checks : List ℕ)
+    → Guarantees (cardOf number k p m generators counts checks)
+    → sums ≡ generatorSums generators
+    → Before (cardOf number k p m generators counts checks) frames s coming₀ syndromes₀
+    → Before (cardOf number k p m generators counts checks) frames t coming syndromes

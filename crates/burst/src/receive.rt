@@ -9,6 +9,7 @@ ghost use lib.Bits.{bitAnd, bitXor};
 ghost use lib.Dec.{ltb};
 ghost use mathlib.Core.Bool.{cond};
 ghost use Rattle.bits.specs.Digits.{shiftUp};
+ghost use Rattle.burst.specs.Held.{Carried};
 ghost use Rattle.burst.specs.Receiving.{generatorSum, generatorSums, TakenIn, written, checkBy, votesBy, decideBy, takenOut, Corrected};
 
 fn wide(x: u8) -> u32
@@ -185,4 +186,24 @@ fn correct(
         take_out(syndromes, sums, p, errors);
     }
     errors
+}
+
+// The first m frames, for which nothing is handed out.
+fn fill(
+    syndromes: &mut [u32; 8],
+    coming: &mut [u32; 8],
+    sums: &[u32; 128],
+    k: usize,
+    p: usize,
+    m: usize,
+    input: &[u8],
+)
+    requires { ⌜ (k ≤ 4) × (k + p ≤ 8) × (m ≤ 31) × (length (now syndromes) ≡ 8) × (length (now coming) ≡ 8) × (m ≤ length (now input)) ⌝ }
+    ensures { λ r. ⌜ (length (now (syndromes .exit)) ≡ 8) × (length (now (coming .exit)) ≡ 8) × Carried (now (sums .entry)) k p m (now (input .entry)) 0 m (now (coming .entry)) (now (syndromes .entry)) (now (coming .exit)) (now (syndromes .exit)) ⌝ }
+{
+    let mut t = 0;
+    while t < m {
+        take_in(syndromes, coming, sums, k, p, m, input[t]);
+        t += 1;
+    }
 }
