@@ -4,3 +4,4 @@ pub mod Coming
 pub mod Following
 pub mod Deciding
 pub mod Waiting
+pub mod HandingOut

@@ -5,15 +5,15 @@ use Prim.Native.Nat.{ℕ, suc, _+_, _-_, _*_, _%_, _<_}
 use mathlib.Core.Path.{_≡_}
 use mathlib.Core.Bool.{cond}
 use mathlib.Core.List.{List}
-use lib.ListN.{getD}
+use lib.ListN.{length, getD}
 use lib.Dec.{leb, ltb}
 use Rattle.bits.specs.Sums.{sumBelow, back}
 use Rattle.bits.specs.Digits.{bit}
 use Rattle.card.specs.Code.{generator, digit}
 use Rattle.card.specs.Guarantees.{Guarantees}
 use Rattle.card.specs.declared.Card.{Card}
-use Rattle.decoder.specs.Rule.{cleared, decided}
-use Rattle.burst.specs.Receiving.{generatorSums}
+use Rattle.decoder.specs.Rule.{cleared, decided, corrected}
+use Rattle.burst.specs.Receiving.{generatorSums, written}
 
 -- the part of parity digit j at t + a that the information digits of times before t give
 unfoldable pub comingAt : Card → List ℕ → ℕ → ℕ → ℕ → ℕ
@@ -46,3 +46,17 @@ Carried sums k p m frames s t coming₀ syndromes₀ coming syndromes =
     → sums ≡ generatorSums generators
     → Before (cardOf number k p m generators counts checks) frames s coming₀ syndromes₀
     → Before (cardOf number k p m generators counts checks) frames t coming syndromes
+
+-- for every card with these tables: registers that were ready for the frame of time m are ready for that of time t now, and the frames m before
+-- those since then are handed out
+abbrev pub HandedOut : List ℕ → List ℕ → List ℕ → ℕ → ℕ → ℕ → List ℕ → ℕ → List ℕ → List ℕ → List ℕ → List ℕ → List ℕ → List ℕ → Type 0
+HandedOut sums counts checks k p m frames t coming₀ syndromes₀ output₀ coming syndromes output =
+    (number : ℕ) (generators : List ℕ)
+    → Guarantees (cardOf number k p m generators counts checks)
+    → sums ≡ generatorSums generators
+    → Before (cardOf number k p m generators counts checks) frames m coming₀ syndromes₀
+    → Before (cardOf number k p m generators counts checks) frames t coming syndromes
+    × (output
+    ≡ written (t - m)
+    (corrected (cardOf number k p m generators counts checks) frames (decided (cardOf number k p m generators counts checks) frames (length frames - m)))
+    output₀)

@@ -9,7 +9,7 @@ ghost use lib.Bits.{bitAnd, bitXor};
 ghost use lib.Dec.{ltb};
 ghost use mathlib.Core.Bool.{cond};
 ghost use Rattle.bits.specs.Digits.{shiftUp};
-ghost use Rattle.burst.specs.Held.{Carried};
+ghost use Rattle.burst.specs.Held.{Carried, HandedOut};
 ghost use Rattle.burst.specs.Receiving.{generatorSum, generatorSums, TakenIn, written, checkBy, votesBy, decideBy, takenOut, Corrected};
 
 fn wide(x: u8) -> u32
@@ -204,6 +204,40 @@ fn fill(
     let mut t = 0;
     while t < m {
         take_in(syndromes, coming, sums, k, p, m, input[t]);
+        t += 1;
+    }
+}
+
+// A frame's information with the decided errors added.
+fn corrected(frame: u8, k: usize, errors: u32) -> u8
+    requires { ⌜ (k ≤ 4) × (errors < 16) ⌝ }
+    ensures { λ r. ⌜ r ≡ bitXor (frame % 2 ^ k) errors ⌝ }
+{
+    (information(frame, k) ^ errors) as u8
+}
+
+// For each frame after the first m the one m before it, corrected.
+fn hand_out(
+    syndromes: &mut [u32; 8],
+    coming: &mut [u32; 8],
+    sums: &[u32; 128],
+    counts: &[usize; 4],
+    checks: &[u32; 512],
+    k: usize,
+    p: usize,
+    m: usize,
+    input: &[u8],
+    output: &mut [u8],
+)
+    requires { ⌜ (k ≤ 4) × (k + p ≤ 8) × (m ≤ 31) × ((i : ℕ) → getD (now counts) i 0 ≤ 16) × (length (now syndromes) ≡ 8) × (length (now coming) ≡ 8) × (m ≤ length (now input)) × (length (now input) ≤ length (now output) + m) ⌝ }
+    ensures { λ r. ⌜ HandedOut (now (sums .entry)) (now (counts .entry)) (now (checks .entry)) k p m (now (input .entry)) (length (now (input .entry))) (now (coming .entry)) (now (syndromes .entry)) (now (output .entry)) (now (coming .exit)) (now (syndromes .exit)) (now (output .exit)) ⌝ }
+{
+    let mut t = m;
+    while t < input.len() {
+        let held = take_in(syndromes, coming, sums, k, p, m, input[t]);
+        let errors = correct(syndromes, held, sums, counts, checks, k, p);
+        let u = t - m;
+        output[u] = corrected(input[u], k, errors);
         t += 1;
     }
 }
