@@ -6,17 +6,19 @@ use mathlib.Core.List.{List, _++_}
 use native.Mathlib.Nat.{lt-of-lt-of-le}
 use native.Mathlib.Numerals.{add-one}
 use native.Mathlib.Omega.{arith}
-use lib.ListN.{length, getD, set, drop, length-set}
+use lib.ListN.{length, getD, set, drop, replicate}
 use lib.Bits.{bitXor}
 use lib.Pow.{pow-mono}
 use Rattle.bits.specs.Sums.{upTo}
 use Rattle.bits.proofs.Lists.{part-at, part-length, part-step}
 use Rattle.card.specs.Guarantees.{Guarantees}
-use Rattle.decoder.specs.Rule.{decided, corrected}
+use Rattle.card.specs.declared.Card.{Card}
+use Rattle.decoder.specs.Rule.{decided, corrected, decoded}
 use Rattle.burst.specs.Receiving.{generatorSums, syndromesNext, written, TakenIn, takenOut, Corrected}
-use Rattle.burst.specs.Held.{Before, With, cardOf, HandedOut}
+use Rattle.burst.specs.Held.{Before, With, cardOf, Carried, HandedOut}
 use Rattle.burst.proofs.Voting.{decide-lt}
 use Rattle.burst.proofs.Following.{taken-in}
+use Rattle.burst.proofs.Waiting.{start}
 use Rattle.burst.proofs.Deciding.{fed-back, handed-out}
 
 -- no register that was written has a 1
@@ -63,3 +65,20 @@ hand-more frames t v output₀ {counts = counts} {checks = checks} {coming = com
           (q ∙ handed-out c G frames t coming' syndromes' W hm after errors D (length frames - m) (omega arith))
           ∙ ap (λ x. written x f output₀) n,
     )
+
+-- a burst of fewer than m frames
+pub none-handed : (c : Card) (frames output : List ℕ) → length frames < c .m → output ≡ decoded c frames ++ drop (length frames - c .m) output
+unfolding decoded upTo
+none-handed c frames output h =
+    let z : length frames - c .m ≡ 0 = omega arith in
+    sym (ap (λ n. upTo n (corrected c frames (decided c frames (length frames - c .m))) ++ drop n output) z)
+
+-- a whole burst, from registers of zeros
+pub all-handed : (sums counts checks generators frames output₀ output coming syndromes coming' syndromes' : List ℕ) (k p m number : ℕ)
+    → Guarantees (cardOf number k p m generators counts checks) → sums ≡ generatorSums generators
+    → Carried sums k p m frames 0 m (replicate 8 0) (replicate 8 0) coming syndromes
+    → HandedOut sums counts checks k p m frames (length frames) coming syndromes output₀ coming' syndromes' output
+    → output ≡ decoded (cardOf number k p m generators counts checks) frames ++ drop (length frames - m) output₀
+unfolding decoded
+all-handed sums counts checks generators frames output₀ output coming syndromes coming' syndromes' k p m number G e carried handed =
+    handed number generators G e (carried number generators counts checks G e (start (cardOf number k p m generators counts checks) frames)) .1

@@ -3,13 +3,15 @@
 // taken in, the decided errors taken out; bit a of coming register j is the parity that the digits so far give for the frame a after the next.
 ghost use mathlib.Core.Path.{_≡_};
 ghost use mathlib.Core.List.{_++_};
-ghost use Prim.Native.Nat.{ℕ, _+_, _*_, _/_, _%_, _^_, _<_, _≤_};
-ghost use lib.ListN.{getD, length};
+ghost use Prim.Native.Nat.{ℕ, _+_, _*_, _-_, _/_, _%_, _^_, _<_, _≤_};
+ghost use lib.ListN.{getD, length, drop};
 ghost use lib.Bits.{bitAnd, bitXor};
 ghost use lib.Dec.{ltb};
 ghost use mathlib.Core.Bool.{cond};
 ghost use Rattle.bits.specs.Digits.{shiftUp};
-ghost use Rattle.burst.specs.Held.{Carried, HandedOut};
+ghost use Rattle.card.specs.Guarantees.{Guarantees};
+ghost use Rattle.decoder.specs.Rule.{decoded};
+ghost use Rattle.burst.specs.Held.{cardOf, Carried, HandedOut};
 ghost use Rattle.burst.specs.Receiving.{generatorSum, generatorSums, TakenIn, written, checkBy, votesBy, decideBy, takenOut, Corrected};
 
 fn wide(x: u8) -> u32
@@ -240,4 +242,39 @@ fn hand_out(
         output[u] = corrected(input[u], k, errors);
         t += 1;
     }
+}
+
+// The frames that the rule hands out for a burst, whatever the number of the card with these tables; the bytes after them stay.
+fn receive_frames<'a>(
+    generators: &'a [u32; 32],
+    counts: &'a [usize; 4],
+    checks: &'a [u32; 512],
+    k: usize,
+    p: usize,
+    m: usize,
+    input: &[u8],
+    output: &mut [u8],
+)
+    requires { ⌜ (k ≤ 4) × (k + p ≤ 8) × (m ≤ 31) × ((i : ℕ) → getD (now counts) i 0 ≤ 16) × (length (now input) ≤ length (now output) + m) ⌝ }
+    ensures { λ r. ⌜ ((number : ℕ) → Guarantees (cardOf number k p m (now (generators .entry)) (now (counts .entry)) (now (checks .entry))) → now (output .exit) ≡ decoded (cardOf number k p m (now (generators .entry)) (now (counts .entry)) (now (checks .entry))) (now (input .entry)) ++ drop (length (now (input .entry)) - m) (now (output .entry))) ⌝ }
+{
+    if input.len() < m {
+        return;
+    }
+    let sums = generator_sums(generators);
+    let mut syndromes = [0u32; 8];
+    let mut coming = [0u32; 8];
+    fill(&mut syndromes, &mut coming, &sums, k, p, m, input);
+    hand_out(
+        &mut syndromes,
+        &mut coming,
+        &sums,
+        counts,
+        checks,
+        k,
+        p,
+        m,
+        input,
+        output,
+    );
 }
