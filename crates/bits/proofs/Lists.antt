@@ -3,11 +3,11 @@ use Prim.Native.Nat.{ℕ, zero, suc, _+_, _-_, _≤_, _<_}
 use mathlib.Core.Path.{_≡_, refl, sym, ap, ap₂, _∙_}
 use mathlib.Core.Logic.{⊎-elim}
 use mathlib.Core.List.{List, [], _∷_, _++_, append-assoc}
-use native.Mathlib.Nat.{le-antisymm}
+use native.Mathlib.Nat.{add-zero, le-antisymm}
 use native.Mathlib.Numerals.{add-one}
 use native.Mathlib.Omega.{arith}
 use lib.ListN.{length, getD, take, drop, set, replicate, length-append, length-drop, List·getD-append}
-use lib.Seq.{drop-cons, set-at, getD-at, getD-append-add, getD-drop, take-suc-set, take-all}
+use lib.Seq.{drop-cons, drop-drop, getD-drop, getD-append-add, set-at, getD-at, take-suc-set, take-all}
 use Rattle.bits.specs.Sums.{upTo}
 use Rattle.bits.proofs.Cases.{last-or-below}
 
@@ -32,6 +32,24 @@ pub zeros-at : (n j : ℕ) → _≡_ {A = ℕ} (getD (replicate n 0) j 0) 0
 zeros-at zero j = refl
 zeros-at (suc n) zero = refl
 zeros-at (suc n) (suc j) = zeros-at n j
+
+-- zeros at the end of a list read as what is beyond it
+pub zeros-after : (l : List ℕ) (n j : ℕ) → getD (l ++ replicate n 0) j 0 ≡ getD l j 0
+zeros-after [] n j = zeros-at n j
+zeros-after (x ∷ l) n zero = refl
+zeros-after (x ∷ l) n (suc j) = zeros-after l n j
+
+-- ---- a list that is walked from the front: from t on it is x and then the rest
+module _ (l : List ℕ) (t x : ℕ) (rest : List ℕ) (e : drop t l ≡ x ∷ rest) where
+  pub dropped-head : x ≡ getD l t 0
+  dropped-head =
+      sym (ap (λ (r : List ℕ). getD r 0 0) e) ∙ getD-drop t l 0 0 ∙ ap (λ (n : ℕ). getD l n 0) (add-zero t)
+
+  pub dropped-rest : drop (t + 1) l ≡ rest
+  dropped-rest = sym (drop-drop 1 t l) ∙ ap (λ (r : List ℕ). drop 1 r) e
+
+  pub dropped-within : t < length l
+  dropped-within = omega (arith, length-drop t l, ap length e)
 
 -- ---- an array of n entries that a loop fills whole
 

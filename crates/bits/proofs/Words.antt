@@ -1,17 +1,21 @@
--- The laws of 32-bit words: what two have in common, shifts, and loops that add up masked words or digits at their places.
+-- The laws of 32-bit words: what two have in common, shifts, loops that add up masked words or digits at their places, and frames with a
+-- digit beyond their streams.
 use Prim.Native.Nat.{ℕ, _+_, _-_, _*_, _/_, _%_, _^_, _≤_, _<_}
 use mathlib.Core.Path.{_≡_, refl, sym, ap, _∙_}
-use mathlib.Core.Bool.{Bool, true, false}
+use mathlib.Core.Bool.{Bool, true, false, _||_}
+use mathlib.Core.List.{List}
 use native.Mathlib.Nat.{le-div-iff-mul-le, div-eq-of-lt, lt-of-le-of-lt, lt-of-lt-of-le, mul-assoc, mul-mod-left, sub-add-cancel}
 use native.Mathlib.Numerals.{add-one}
 use native.Mathlib.Omega.{arith}
 use lib.Dec.{leb, ltb}
+use lib.ListN.{length, getD, drop, drop-of-length-le}
+use lib.Seq.{drop-cons}
 use lib.Pow.{pow-pos, pow-add, pow-mono, shl-exact}
 use borrow.Author.Tests.{lt-ltb, leb-true, leb-false}
 use lib.Bits.{bitAnd, bitXor, and-le-l, and-lt, xor-lt}
 use lib.Count.{ones, ones-le}
 use Rattle.bits.specs.Sums.{sumBelow, xorBelow}
-use Rattle.bits.specs.Digits.{bit, dot, shiftUp}
+use Rattle.bits.specs.Digits.{bit, dot, shiftUp, anyBeyond}
 use Rattle.bits.proofs.Sums.{sum-cong, sum-same, sum-add, sum-cut, sum-mod, sum-more}
 use Rattle.bits.proofs.Digits.{bit-and, bit-xor, bit-high, bit-shift, digits-lt, ones-sum}
 
@@ -80,3 +84,12 @@ beyond-test f n = go (leb (2 ^ n) f) refl
     go : (b : Bool) → leb (2 ^ n) f ≡ b → ltb 0 (f / 2 ^ n) ≡ b
     go true e = lt-ltb 0 (f / 2 ^ n) (le-div-iff-mul-le {k = 2 ^ n} {x = 1} {y = f} (pow-pos n) .1 (omega (arith, leb-true (2 ^ n) f e)))
     go false e = ap (λ (x : ℕ). ltb 0 x) (div-eq-of-lt (leb-false (2 ^ n) f e))
+
+-- the frames from i on: the next one has a digit beyond, or one after it
+pub any-beyond-next : (n : ℕ) (frames : List ℕ) (i : ℕ) → i < length frames → anyBeyond n (drop i frames) ≡ (leb (2 ^ n) (getD frames i 0) || anyBeyond n (drop (i + 1) frames))
+unfolding anyBeyond
+any-beyond-next n frames i l = ap (anyBeyond n) (drop-cons frames i 0 l) ∙ ap (λ j. leb (2 ^ n) (getD frames i 0) || anyBeyond n (drop j frames)) (sym (add-one i))
+
+pub none-beyond-end : (n : ℕ) (frames : List ℕ) (i : ℕ) → length frames ≤ i → anyBeyond n (drop i frames) ≡ false
+unfolding anyBeyond
+none-beyond-end n frames i l = ap (anyBeyond n) (drop-of-length-le frames l)

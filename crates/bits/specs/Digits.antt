@@ -1,6 +1,9 @@
 -- The digits of a number, counted from 0, the lowest first.
 -- Assumes nothing.
-use Prim.Native.Nat.{ℕ, _+_, _*_, _/_, _%_, _^_}
+use Prim.Native.Nat.{ℕ, _*_, _/_, _%_, _^_}
+use mathlib.Core.Bool.{Bool, false, _||_}
+use mathlib.Core.List.{List, [], _∷_}
+use lib.Dec.{leb}
 use Rattle.bits.specs.Sums.{sumBelow}
 
 -- digit a of x
@@ -18,3 +21,8 @@ dot x y = sumBelow 32 (λ a. bit x a * bit y a)
 -- x moved up by a places in a word, what goes beyond its 32 places lost
 unfoldable pub shiftUp : ℕ → ℕ → ℕ
 shiftUp x a = x * 2 ^ a % 2 ^ 32
+
+-- whether some frame has a digit at stream n or beyond
+unfoldable pub anyBeyond : ℕ → List ℕ → Bool
+anyBeyond n [] = false
+anyBeyond n (f ∷ frames) = leb (2 ^ n) f || anyBeyond n frames

@@ -3,7 +3,7 @@ ghost use mathlib.Core.Path.{_≡_};
 ghost use Prim.Native.Nat.{_/_, _%_, _^_, _≤_, min};
 ghost use lib.ListN.{getD};
 ghost use lib.Dec.{leb};
-ghost use Rattle.bits.specs.Digits.{bit, dot, shiftUp};
+ghost use Rattle.bits.specs.Digits.{bit, dot, shiftUp, anyBeyond};
 
 // Digit a of x.
 pub fn digit(x: u32, a: usize) -> u32
@@ -52,6 +52,20 @@ pub fn beyond(frame: u8, n: usize) -> bool
     ensures { λ r. ⌜ r ≡ leb (2 ^ n) frame ⌝ }
 {
     if n < 8 { 0 < frame >> n } else { false }
+}
+
+// Whether some frame has a digit at stream n or beyond.
+pub fn any_beyond(frames: &[u8], n: usize) -> bool
+    ensures { λ r. ⌜ r ≡ anyBeyond n (now (frames .entry)) ⌝ }
+{
+    let mut i = 0;
+    while i < frames.len() {
+        if beyond(frames[i], n) {
+            return true;
+        }
+        i += 1;
+    }
+    false
 }
 
 // x, held to a largest value.

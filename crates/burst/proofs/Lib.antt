@@ -1,3 +1,6 @@
+pub mod Answers
+pub mod Outcomes
+pub mod Sending
 pub mod TakingIn
 pub mod Voting
 pub mod Coming

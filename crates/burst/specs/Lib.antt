@@ -1,2 +1,4 @@
+pub mod Outcome
+pub mod Sending
 pub mod Receiving
 pub mod Held

@@ -1,13 +1,13 @@
 -- The code by registers, for registers and tables of every value: what `code` computes. Nobody has to believe this file: the laws in
 -- proofs/Registers.antt tie it to the code of document 01 (`Code`).
 -- Assumes nothing.
-use Prim.Native.Nat.{ℕ, _+_, _*_, _%_, _^_, min}
+use Prim.Native.Nat.{ℕ, _+_, _-_, _*_, _%_, _^_, min}
 use mathlib.Core.Bool.{cond}
 use mathlib.Core.List.{List, _++_}
 use lib.ListN.{getD, drop, replicate}
 use lib.Dec.{ltb}
 use Rattle.bits.specs.Sums.{sumBelow, upTo}
-use Rattle.bits.specs.Digits.{bit, dot}
+use Rattle.bits.specs.Digits.{bit, fromDigits, dot}
 
 -- the mask of information stream i and parity stream j, zero beyond the table
 unfoldable pub generatorMask : List ℕ → ℕ → ℕ → ℕ
@@ -24,3 +24,11 @@ historyBy h k f = upTo (min k 4) (λ i. shiftIn (getD h i 0) (bit f i)) ++ drop 
 -- the digit of parity stream j that the information digits in the registers give
 unfoldable pub parityBy : List ℕ → List ℕ → ℕ → ℕ → ℕ
 parityBy g h k j = sumBelow (min k 4) (λ i. dot (generatorMask g i j) (getD h i 0)) % 2
+
+-- the digit of stream s of the frame that is sent for the information frame f, which the registers have taken in
+unfoldable pub digitBy : List ℕ → List ℕ → ℕ → ℕ → ℕ → ℕ
+digitBy g h k f s = cond (ltb s (min k 4)) (bit f s) (parityBy g h k (s - min k 4))
+
+-- the frame that is sent, eight digits at most
+unfoldable pub frameBy : List ℕ → List ℕ → ℕ → ℕ → ℕ → ℕ
+frameBy g h k p f = fromDigits (min k 4 + min p (8 - min k 4)) (digitBy g h k f)

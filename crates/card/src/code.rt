@@ -1,7 +1,7 @@
 // The code by registers: bit a of history register i is information digit i of the frame a before the last one taken.
 ghost use mathlib.Core.Path.{_≡_};
 ghost use Prim.Native.Nat.{_<_};
-ghost use Rattle.card.specs.Registers.{generatorMask, shiftIn, historyBy, parityBy};
+ghost use Rattle.card.specs.Registers.{generatorMask, shiftIn, historyBy, parityBy, frameBy};
 
 // The generator of information stream i and parity stream j, zero beyond the table.
 pub fn generator(generators: &[u32; 32], i: usize, j: usize) -> u32
@@ -49,4 +49,19 @@ pub fn parity(generators: &[u32; 32], registers: &[u32; 4], k: usize, j: usize) 
         i += 1;
     }
     u32::count_ones(sum) % 2
+}
+
+// The frame that is sent: the information digits of `info`, and after them the parity digits that the registers give, eight digits at most.
+pub fn frame(generators: &[u32; 32], registers: &[u32; 4], k: usize, p: usize, info: u32) -> u32
+    ensures { λ r. ⌜ r ≡ frameBy (now (generators .entry)) (now (registers .entry)) k p info ⌝ }
+{
+    let streams = bits::at_most(k, 4);
+    let parities = bits::at_most(p, 8 - streams);
+    let mut digits = info % bits::shift_up(1, streams);
+    let mut j = 0;
+    while j < parities {
+        digits = digits + bits::shift_up(parity(generators, registers, k, j), streams + j);
+        j += 1;
+    }
+    digits
 }

@@ -1,5 +1,7 @@
 // Link cards: the code and the checks that a card names, and reading one from its bytes.
 pub mod code;
+mod fields;
+mod parts;
 
 ghost use mathlib.Core.Path.{_≡_};
 ghost use Rattle.card.specs.Refusals.{numberOf};

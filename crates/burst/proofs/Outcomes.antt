@@ -1,0 +1,43 @@
+-- What a burst comes to, from its answer and its bytes, and what sending comes to under each condition.
+use Prim.Native.Nat.{ℕ, _+_, _≤_, _<_}
+use mathlib.Core.Path.{_≡_, sym, ap, ap₂, _∙_}
+use mathlib.Core.Bool.{true, false}
+use mathlib.Core.List.{List, _++_}
+use lib.ListN.{length, drop}
+use lib.IntN.{ℤ, pos, negℤ}
+use borrow.Author.Tests.{lt-ltb, le-ltb}
+use Rattle.bits.specs.Digits.{anyBeyond}
+use Rattle.card.specs.Code.{sent}
+use Rattle.card.specs.declared.Card.{Card}
+use Rattle.card.proofs.Sent.{sent-length}
+use Rattle.burst.specs.Outcome.{outcome, refusedOf, givenOf}
+use Rattle.burst.specs.Sending.{sendUnder}
+
+pub refused-is : {answer : ℤ} (n : ℕ) (output : List ℕ) → answer ≡ negℤ (pos n) → outcome answer output ≡ refusedOf n output
+unfolding refusedOf
+refused-is n output e = ap (λ (z : ℤ). outcome z output) e
+
+pub given-is : {answer : ℤ} {after : List ℕ} (count : ℕ) (frames output : List ℕ) → length frames ≡ count → answer ≡ pos count → after ≡ frames ++ drop count output
+    → outcome answer after ≡ givenOf frames output
+unfolding givenOf
+given-is count frames output q e a =
+    ap₂ outcome e a ∙ ap (λ (n : ℕ). outcome (pos n) (frames ++ drop n output)) (sym q)
+
+module _ (c : Card) (input output : List ℕ) where
+  pub under-full : 1048576 < length input + c .m → sendUnder c input output ≡ refusedOf 15 output
+  unfolding sendUnder
+  under-full l = rw (sent-length c input, lt-ltb 1048576 (length input + c .m) l)
+
+  module _ (r : length input + c .m ≤ 1048576) where
+    pub under-short : length output < length input + c .m → sendUnder c input output ≡ refusedOf 13 output
+    unfolding sendUnder
+    under-short l = rw (sent-length c input, le-ltb 1048576 (length input + c .m) r, lt-ltb (length output) (length input + c .m) l)
+
+    module _ (o : length input + c .m ≤ length output) where
+      pub under-beyond : anyBeyond (c .k) input ≡ true → sendUnder c input output ≡ refusedOf 11 output
+      unfolding sendUnder
+      under-beyond b = rw (sent-length c input, le-ltb 1048576 (length input + c .m) r, le-ltb (length output) (length input + c .m) o, b)
+
+      pub under-sent : anyBeyond (c .k) input ≡ false → sendUnder c input output ≡ givenOf (sent c input) output
+      unfolding sendUnder
+      under-sent b = rw (sent-length c input, le-ltb 1048576 (length input + c .m) r, le-ltb (length output) (length input + c .m) o, b)

@@ -1,0 +1,95 @@
+-- For whatever card has this table and these numbers: the registers hold its digits before time `at`, and the output the frames that it sends
+-- before then.
+use Prim.Native.Nat.{_-_, _≤_}
+use mathlib.Core.Path.{_≡_, refl, _∙_}
+use native.Mathlib.Omega.{arith}
+use lib.ListN.{length, length-set}
+use Rattle.bits.specs.Sums.{upTo}
+use Rattle.card.specs.Code.{withTail}
+use Rattle.card.specs.declared.Card.{Card}
+use Rattle.card.proofs.Registers.{history-start, frame-lt}
+use Rattle.burst.specs.Sending.{Names}
+use Rattle.burst.proofs.Sending.{SentBefore, sent-turn, sent-end}
+use Rattle.burst.proofs.send.send_frames.Statement.{statement}
+use Rattle.burst.proofs.send.send_frames.Tie as tie
+
+abbrev Inv-loop : tie.InvT-loop
+Inv-loop generators k p m input output₀ count registers₀ at₀ output registers at =
+    (at ≤ count) × (length output ≡ length output₀) × ((card : Card) → Names card generators k p m → SentBefore card input output₀ at registers output)
+
+abbrev μ-loop : tie.MeasureT-loop
+μ-loop generators k p m input output₀ count registers₀ at₀ output registers at = count - at
+
+add-count : tie.Need-add-count Inv-loop μ-loop
+add-count c = omega arith
+
+loop-holds : tie.Need-loop-holds Inv-loop μ-loop
+unfolding upTo
+loop-holds c = (omega arith, refl, λ card names. (history-start card (withTail card (c .before .before .args .input .now)), refl))
+
+information-requires : tie.Need-information-requires Inv-loop μ-loop
+information-requires c κs = tt
+
+history-requires : tie.Need-history-requires Inv-loop μ-loop
+history-requires c κs = tt
+
+frame-requires : tie.Need-frame-requires Inv-loop μ-loop
+frame-requires c κs = tt
+
+cast-output : tie.Need-cast-output Inv-loop μ-loop
+cast-output c =
+    let a = c .before .before .before .before .before .before .before .before .before .args in
+    record {
+      fits = omega (arith, c .frame .ensures, frame-lt (a .generators .now) (c .before .before .history .result) (a .k) (c .before .before .before .before .information .result) (a .p));
+    }
+
+slice-write-output : tie.Need-slice-write-output Inv-loop μ-loop
+slice-write-output c = omega arith
+
+add-at : tie.Need-add-at Inv-loop μ-loop
+add-at c = omega arith
+
+loop-less : tie.Need-loop-less Inv-loop μ-loop
+loop-less c = omega arith
+
+loop-again : tie.Need-loop-again Inv-loop μ-loop
+loop-again c =
+    let a = c .before .before .before .before .before .before .before .before .before .args in
+    let l = c .before .before .before .before .before .before .loop in
+    let info = c .before .before .before .before .information in
+    let next = c .before .before .history in (
+      omega arith,
+      length-set (l .output) (l .at) (c .frame .result) ∙ l .inv .1,
+      λ card names.
+          sent-turn card (a .generators .now) (a .k) (a .p) (a .m) names (a .input .now) (a .output .now) (l .at) (info .result) (c .frame .result) (l .registers) (next .result) (l .output)
+          (omega arith) (info .ensures) (next .ensures) (c .frame .ensures) (l .inv .2 card names),
+    )
+
+same-length : tie.Need-same-length Inv-loop μ-loop
+same-length c = c .before .loop .inv .1
+
+returns : tie.Need-returns Inv-loop μ-loop
+returns c =
+    let a = c .before .before .before .before .args in
+    let l = c .before .loop in
+    λ card names.
+    sent-end card (a .generators .now) (a .k) (a .p) (a .m) names (a .input .now) (a .output .now) (l .at) (l .registers) (l .output) (l .inv .0) (c .loop-test .left) (l .inv .2 card names)
+
+pub send-frames-spec : {M : Type 1} → statement M
+send-frames-spec =
+    tie.close
+    (tie.spec
+    Inv-loop
+    μ-loop
+    add-count
+    loop-holds
+    information-requires
+    history-requires
+    frame-requires
+    cast-output
+    slice-write-output
+    add-at
+    loop-less
+    loop-again
+    same-length
+    returns)

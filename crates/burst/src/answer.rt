@@ -1,0 +1,19 @@
+// The answer of a burst: the count of output frames, or minus the refusal.
+ghost use mathlib.Core.Path.{_≡_};
+ghost use Prim.Native.Nat.{_≤_};
+ghost use lib.IntN.{pos, negℤ};
+ghost use Rattle.card.specs.Refusals.{numberOf};
+use card::Refusal;
+
+pub fn refused(refusal: Refusal) -> i32
+    ensures { λ r. ⌜ r ≡ negℤ (pos (numberOf refusal)) ⌝ }
+{
+    -(card::refusal_number(refusal) as i32)
+}
+
+pub fn frames(count: usize) -> i32
+    requires { ⌜ count ≤ 1048576 ⌝ }
+    ensures { λ r. ⌜ r ≡ pos count ⌝ }
+{
+    count as i32
+}

@@ -1,0 +1,69 @@
+// Sending a whole burst: information frames in, the frames of all streams out, the tail included.
+ghost use mathlib.Core.Path.{_≡_};
+ghost use mathlib.Core.List.{_++_};
+ghost use Prim.Native.Nat.{_+_, _≤_};
+ghost use lib.ListN.{length, getD, drop};
+ghost use Rattle.card.specs.Code.{sent};
+ghost use Rattle.card.specs.Guarantees.{Guarantees};
+ghost use Rattle.card.specs.declared.Card.{Card};
+ghost use Rattle.burst.specs.Outcome.{outcome};
+ghost use Rattle.burst.specs.Sending.{Names, sendUnder};
+use crate::answer::frames;
+use crate::answer::refused;
+use card::Card;
+use card::Refusal;
+
+// The information frame of time `at`, zero after the last one: the tail's.
+fn information(input: &[u8], at: usize) -> u32
+    ensures { λ r. ⌜ r ≡ getD (now (input .entry)) at 0 ⌝ }
+{
+    if at < input.len() {
+        input[at] as u32
+    } else {
+        0
+    }
+}
+
+// The frames that the code with these generators sends for the input, tail included, into the front of the output.
+fn send_frames(
+    generators: &[u32; 32],
+    k: usize,
+    p: usize,
+    m: usize,
+    input: &[u8],
+    output: &mut [u8],
+)
+    requires { ⌜ length (now input) + m ≤ length (now output) ⌝ }
+    ensures { λ _. ⌜ ((c : Card) → Names c (now (generators .entry)) k p m → now (output .exit) ≡ sent c (now (input .entry)) ++ drop (length (now (input .entry)) + m) (now (output .entry))) ⌝ }
+{
+    let count = input.len() + m;
+    let mut registers = [0u32; 4];
+    let mut at = 0;
+    while at < count {
+        let info = information(input, at);
+        registers = card::code::history(&registers, k, info);
+        output[at] = card::code::frame(generators, &registers, k, p, info) as u8;
+        at += 1;
+    }
+}
+
+// A burst under an accepted card.
+fn send_under(card: Card, input: &[u8], output: &mut [u8]) -> i32
+    requires { ⌜ Guarantees card ⌝ }
+    ensures { λ r. ⌜ outcome r (now (output .exit)) ≡ sendUnder card (now (input .entry)) (now (output .entry)) ⌝ }
+{
+    let m = card.m;
+    let count = input.len() + m;
+    if 1048576 < count {
+        return refused(Refusal::TooManyFrames);
+    }
+    if output.len() < count {
+        return refused(Refusal::OutputTooShort);
+    }
+    if bits::any_beyond(input, card.k) {
+        return refused(Refusal::DigitBeyondStreams);
+    }
+    let generators = card.generators;
+    send_frames(&generators, card.k, card.p, m, input, output);
+    frames(count)
+}

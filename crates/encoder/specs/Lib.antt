@@ -1,0 +1,4 @@
+pub mod Outcome
+pub mod Sending
+pub mod Calls
+pub mod Claims
