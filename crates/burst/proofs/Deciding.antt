@@ -26,7 +26,7 @@ use Rattle.card.specs.declared.Card.{Card}
 use Rattle.decoder.specs.Rule.{cleared, checkAt, votes, decide, decideFrame, decided, corrected}
 use Rattle.decoder.proofs.Streams.{decided-length, decided-at}
 use Rattle.decoder.proofs.Syndromes.{cleared-fed}
-use Rattle.burst.specs.Receiving.{generatorSums, checkBy, votesBy, majorityBy, decideBy, takenOut, Corrected}
+use Rattle.burst.specs.Registers.{generatorSums, checkBy, votesBy, majorityBy, decideBy, takenOut, Corrected}
 use Rattle.burst.specs.Held.{comingAt, syndromeHeld, Before, With}
 use Rattle.burst.proofs.Coming.{generator-beyond}
 use Rattle.burst.proofs.Following.{sums-bit}

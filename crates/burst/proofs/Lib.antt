@@ -8,3 +8,4 @@ pub mod Following
 pub mod Deciding
 pub mod Waiting
 pub mod HandingOut
+pub mod Received

@@ -11,7 +11,7 @@ use lib.Bits.{bitAnd, bitOr, bitXor, and-le-l, and-le-r, or-add-and}
 use Rattle.bits.specs.Digits.{shiftUp}
 use Rattle.bits.proofs.Cases.{last-or-below}
 use Rattle.bits.proofs.Lists.{part-rest}
-use Rattle.burst.specs.Receiving.{parityWith, comingNext, syndromesNext, written}
+use Rattle.burst.specs.Registers.{parityWith, comingNext, syndromesNext, written}
 
 module _ (sums coming₀ : List ℕ) (k f j : ℕ) where
   pub parity-is : {coming : List ℕ} {x : ℕ} → coming ≡ written j (comingNext sums coming₀ k f) coming₀ → x ≡ f % 2 ^ k

@@ -17,7 +17,7 @@ use Rattle.bits.proofs.Sums.{sum-mod, sum-cong, sum-add, sum-more, sum-none}
 use Rattle.bits.proofs.Cases.{cond-le}
 use Rattle.bits.proofs.Digits.{bit-and, bit-xor, bit-of-zero, ones-sum, from-digits-lt}
 use Rattle.bits.proofs.Words.{shift-digit}
-use Rattle.burst.specs.Receiving.{checkBy, votesBy, majorityBy, decideBy}
+use Rattle.burst.specs.Registers.{checkBy, votesBy, majorityBy, decideBy}
 
 -- the ones of what two words have in common
 pub ones-of-common : (x y : ℕ) {z : ℕ} → z ≡ bitAnd x y → z < 2 ^ 32 → ones z ≡ dot x y
@@ -51,6 +51,11 @@ check-lt checks at syndromes p = mod-lt _ (zero-lt-suc 1)
 
 -- ---- the decided errors, one stream after the other
 module _ (counts checks syndromes : List ℕ) (p : ℕ) where
+  pub majority-of : (i : ℕ) {r v : ℕ} → r ≡ cond (ltb (getD counts i 0) (2 * v)) 1 0 → v ≡ votesBy checks i (getD counts i 0) syndromes p
+      → r ≡ majorityBy counts checks syndromes p i
+  unfolding majorityBy
+  majority-of i e q = e ∙ ap (λ v. cond (ltb (getD counts i 0) (2 * v)) 1 0) q
+
   pub majority-lt : (i : ℕ) → majorityBy counts checks syndromes p i < 2
   unfolding majorityBy
   majority-lt i = let l = cond-le (ltb (getD counts i 0) (2 * votesBy checks i (getD counts i 0) syndromes p)) 1 0 1 (omega arith) (omega arith) in omega arith

@@ -17,7 +17,7 @@ use Rattle.bits.proofs.Cases.{le-or-lt}
 use Rattle.bits.proofs.Digits.{bit-of-zero}
 use Rattle.card.specs.declared.Card.{Card}
 use Rattle.decoder.specs.Rule.{cleared, decided}
-use Rattle.burst.specs.Receiving.{comingNext, syndromesNext, TakenIn}
+use Rattle.burst.specs.Registers.{comingNext, syndromesNext, TakenIn}
 use Rattle.burst.specs.Held.{syndromeHeld, Before, With, cardOf, Carried}
 use Rattle.burst.proofs.Coming.{coming-start}
 use Rattle.burst.proofs.Following.{taken-in}

@@ -13,7 +13,7 @@ use Rattle.card.specs.Code.{generator, digit}
 use Rattle.card.specs.Guarantees.{Guarantees}
 use Rattle.card.specs.declared.Card.{Card}
 use Rattle.decoder.specs.Rule.{cleared, decided, corrected}
-use Rattle.burst.specs.Receiving.{generatorSums, written}
+use Rattle.burst.specs.Registers.{generatorSums, written}
 
 -- the part of parity digit j at t + a that the information digits of times before t give
 unfoldable pub comingAt : Card → List ℕ → ℕ → ℕ → ℕ → ℕ

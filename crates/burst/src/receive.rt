@@ -11,8 +11,14 @@ ghost use mathlib.Core.Bool.{cond};
 ghost use Rattle.bits.specs.Digits.{shiftUp};
 ghost use Rattle.card.specs.Guarantees.{Guarantees};
 ghost use Rattle.decoder.specs.Rule.{decoded};
+ghost use Rattle.burst.specs.Outcome.{outcome};
+ghost use Rattle.burst.specs.Receiving.{receiveUnder};
 ghost use Rattle.burst.specs.Held.{cardOf, Carried, HandedOut};
-ghost use Rattle.burst.specs.Receiving.{generatorSum, generatorSums, TakenIn, written, checkBy, votesBy, decideBy, takenOut, Corrected};
+ghost use Rattle.burst.specs.Registers.{generatorSum, generatorSums, TakenIn, written, checkBy, votesBy, decideBy, takenOut, Corrected};
+use crate::answer::frames;
+use crate::answer::refused;
+use card::Card;
+use card::Refusal;
 
 fn wide(x: u8) -> u32
     ensures { λ r. ⌜ r ≡ x ⌝ }
@@ -277,4 +283,42 @@ fn receive_frames<'a>(
         input,
         output,
     );
+}
+
+// How many frames are handed out for so many received.
+fn after_first(received: usize, m: usize) -> usize
+    ensures { λ r. ⌜ r ≡ received - m ⌝ }
+{
+    if received < m { 0 } else { received - m }
+}
+
+// A burst under an accepted card. Every frame is tested before a byte is written.
+fn receive_under(card: Card, input: &[u8], output: &mut [u8]) -> i32
+    requires { ⌜ Guarantees card ⌝ }
+    ensures { λ r. ⌜ outcome r (now (output .exit)) ≡ receiveUnder card (now (input .entry)) (now (output .entry)) ⌝ }
+{
+    if 1048576 < input.len() {
+        return refused(Refusal::TooManyFrames);
+    }
+    let k = card.k;
+    let p = card.p;
+    let m = card.m;
+    let count = after_first(input.len(), m);
+    if output.len() < count {
+        return refused(Refusal::OutputTooShort);
+    }
+    if bits::any_beyond(input, k + p) {
+        return refused(Refusal::DigitBeyondStreams);
+    }
+    receive_frames(
+        &card.generators,
+        &card.counts,
+        &card.checks,
+        k,
+        p,
+        m,
+        input,
+        output,
+    );
+    frames(count)
 }

@@ -8,7 +8,7 @@ use lib.Bits.{xor-lt}
 use lib.Count.{ones}
 use Rattle.bits.specs.Sums.{sumBelow}
 use Rattle.bits.specs.Digits.{dot}
-use Rattle.burst.specs.Receiving.{checkBy}
+use Rattle.burst.specs.Registers.{checkBy}
 use Rattle.burst.proofs.Voting.{ones-of-common, parity-more}
 use borrow.Author.Needs.{needs}
 use Rattle.burst.proofs.receive.check.Statement.{statement}

@@ -9,8 +9,8 @@ use lib.Dec.{ltb}
 use Rattle.bits.specs.Sums.{sumBelow}
 use Rattle.bits.specs.Digits.{fromDigits, shiftUp}
 use Rattle.bits.proofs.Words.{placed-fits}
-use Rattle.burst.specs.Receiving.{votesBy, majorityBy, decideBy}
-use Rattle.burst.proofs.Voting.{majority-lt, errors-lt, errors-more}
+use Rattle.burst.specs.Registers.{votesBy, majorityBy, decideBy}
+use Rattle.burst.proofs.Voting.{majority-of, majority-lt, errors-lt, errors-more}
 use borrow.Author.Needs.{needs}
 use Rattle.burst.proofs.receive.decide.Statement.{statement}
 use Rattle.burst.proofs.receive.decide.Tie as tie
@@ -52,11 +52,10 @@ majority-is : (c : tie.After-majority Inv-loop μ-loop)
     → c .majority .result
     ≡ majorityBy (c .before .before .before .before .before .args .counts .now) (c .before .before .before .before .before .args .checks .now)
     (c .before .before .before .before .before .args .syndromes .now) (c .before .before .before .before .before .args .p) (c .before .before .before .before .loop .i)
-unfolding majorityBy
 majority-is c =
     let a = c .before .before .before .before .before .args in
     let i = c .before .before .before .before .loop .i in
-    c .majority .ensures ∙ ap (λ x. cond (ltb (getD (a .counts .now) i 0) (2 * x)) 1 0) (c .before .votes .ensures)
+    majority-of (a .counts .now) (a .checks .now) (a .syndromes .now) (a .p) i (c .majority .ensures) (c .before .votes .ensures)
 
 add-errors : tie.Need-add-errors Inv-loop μ-loop
 unfolding shiftUp

@@ -9,7 +9,7 @@ use Rattle.bits.specs.Sums.{xorBelow}
 use Rattle.bits.specs.Digits.{bit}
 use Rattle.bits.proofs.Digits.{bit-le}
 use Rattle.bits.proofs.Words.{xor-more}
-use Rattle.burst.specs.Receiving.{generatorSum}
+use Rattle.burst.specs.Registers.{generatorSum}
 use Rattle.burst.proofs.receive.generator_sum.Statement.{statement}
 use Rattle.burst.proofs.receive.generator_sum.Tie as tie
 

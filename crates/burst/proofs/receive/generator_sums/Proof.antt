@@ -5,7 +5,7 @@ use native.Mathlib.Omega.{arith}
 use lib.ListN.{length, take, set, length-set}
 use Rattle.bits.specs.Sums.{upTo}
 use Rattle.bits.proofs.Lists.{fill-step, fill-end}
-use Rattle.burst.specs.Receiving.{generatorSum, generatorSums}
+use Rattle.burst.specs.Registers.{generatorSum, generatorSums}
 use Rattle.burst.proofs.receive.generator_sums.Statement.{statement}
 use Rattle.burst.proofs.receive.generator_sums.Tie as tie
 

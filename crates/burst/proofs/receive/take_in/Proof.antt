@@ -7,7 +7,7 @@ use lib.ListN.{length, getD}
 use borrow.Author.Needs.{needs}
 use Rattle.bits.specs.Sums.{upTo}
 use Rattle.bits.proofs.Lists.{part-step, part-end}
-use Rattle.burst.specs.Receiving.{comingNext, syndromesNext, written}
+use Rattle.burst.specs.Registers.{comingNext, syndromesNext, written}
 use Rattle.burst.proofs.TakingIn.{parity-is, coming-step, register-is, none-more}
 use Rattle.burst.proofs.receive.take_in.Statement.{statement}
 use Rattle.burst.proofs.receive.take_in.Tie as tie

@@ -7,7 +7,7 @@ use lib.ListN.{length, getD}
 use lib.Bits.{bitXor}
 use Rattle.bits.specs.Sums.{upTo}
 use Rattle.bits.proofs.Lists.{part-step, part-end, part-rest}
-use Rattle.burst.specs.Receiving.{written, takenOut}
+use Rattle.burst.specs.Registers.{written, takenOut}
 use borrow.Author.Needs.{needs}
 use Rattle.burst.proofs.receive.take_out.Statement.{statement}
 use Rattle.burst.proofs.receive.take_out.Tie as tie

@@ -7,7 +7,7 @@ use lib.Count.{ones}
 use lib.Pow.{pow-mono}
 use Rattle.bits.specs.Sums.{sumBelow}
 use Rattle.bits.proofs.Sums.{sum-step, sum-end}
-use Rattle.burst.specs.Receiving.{checkBy, votesBy}
+use Rattle.burst.specs.Registers.{checkBy, votesBy}
 use Rattle.burst.proofs.Voting.{check-lt, ones-more, word-more}
 use borrow.Author.Needs.{needs}
 use Rattle.burst.proofs.receive.votes.Statement.{statement}
