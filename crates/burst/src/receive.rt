@@ -12,13 +12,15 @@ ghost use Rattle.bits.specs.Digits.{shiftUp};
 ghost use Rattle.card.specs.Guarantees.{Guarantees};
 ghost use Rattle.decoder.specs.Rule.{decoded};
 ghost use Rattle.burst.specs.Outcome.{outcome};
-ghost use Rattle.burst.specs.Receiving.{receiveUnder};
+ghost use Rattle.burst.specs.Receiving.{receiveUnder, receiveOf};
+ghost use Rattle.burst.specs.Claims.{ComesOutAsSent};
 ghost use Rattle.burst.specs.Held.{cardOf, Carried, HandedOut};
 ghost use Rattle.burst.specs.Registers.{generatorSum, generatorSums, TakenIn, written, checkBy, votesBy, decideBy, takenOut, Corrected};
 use crate::answer::frames;
 use crate::answer::refused;
 use card::Card;
 use card::Refusal;
+use card::Verdict;
 
 fn wide(x: u8) -> u32
     ensures { λ r. ⌜ r ≡ x ⌝ }
@@ -321,4 +323,19 @@ fn receive_under(card: Card, input: &[u8], output: &mut [u8]) -> i32
         output,
     );
     frames(count)
+}
+
+// Receives a whole burst: the count of frames handed out, or minus the refusal. Only that many bytes of the output are written, and a refused
+// call writes none.
+#[no_mangle]
+pub extern "C" fn burst_receive(card: &[u8], input: &[u8], output: &mut [u8]) -> i32
+    ensures { λ r. ⌜ outcome r (now (output .exit)) ≡ receiveOf (now (card .entry)) (now (input .entry)) (now (output .entry)) ⌝ }
+    ensures { λ r. ⌜ ComesOutAsSent (now (card .entry)) (now (input .entry)) (now (output .entry)) r (now (output .exit)) ⌝ }
+{
+    let read = card::read_card(card);
+    let verdict = read.verdict;
+    match verdict {
+        Verdict::Accepted => receive_under(read.card, input, output),
+        Verdict::Refused { refusal, offset: _ } => refused(refusal),
+    }
 }

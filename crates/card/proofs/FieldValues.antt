@@ -3,9 +3,12 @@ use Prim.Native.Nat.{ℕ, _+_, _*_, _/_, _^_, _≤_, _<_}
 use mathlib.Core.Path.{_≡_, sym, ap, _∙_}
 use mathlib.Core.List.{List}
 use mathlib.Core.Logic.{⊎-elim}
+use native.Mathlib.Nat.{div-lt-iff-lt-mul, pow-succ'}
+use native.Mathlib.Numerals.{add-one}
 use native.Mathlib.Omega.{arith}
 use lib.ListN.{length, getD}
 use lib.Dec.{leb, ltb, eqb}
+use lib.Pow.{pow-pos}
 use borrow.Author.Tests.{ltb-true, leb-true, eqb-true, eqb-false}
 use Rattle.bits.proofs.Cases.{picked}
 use Rattle.card.specs.Reading.{Field, byteField, kField, nField, mapField, maskField, wordAt, standingMask}
@@ -125,6 +128,10 @@ mask-is bs at m v e =
     (λ h. not-value (h .1))
     (picked (leb (at + 4) (length bs)) e)
 
+-- no bit above m
+pub within-lt : (v m : ℕ) → v / 2 ^ m ≤ 1 → v < 2 ^ (m + 1)
+within-lt v m h = rw (add-one, pow-succ') (div-lt-iff-lt-mul {y = 2} (pow-pos m) .0 (omega arith))
+
 -- a mask that may stand
 pub standing-inside : (bs : List ℕ) (at m d v : ℕ) → at ≤ length bs → d < 2 → standingMask bs at m d ≡ value v → at + d * 4 ≤ length bs
 unfolding standingMask
@@ -132,6 +139,14 @@ standing-inside bs at m d v l h e =
     ⊎-elim
     (λ w. let q = eqb-true d 1 (w .0) in let i = mask-is bs at m v (w .1) .inside in omega arith)
     (λ w. let q = eqb-false d 1 (w .0) in let z : d ≡ 0 = omega arith in omega arith)
+    (picked (eqb d 1) e)
+
+pub standing-within : (bs : List ℕ) (at m d v : ℕ) → standingMask bs at m d ≡ value v → v < 2 ^ (m + 1)
+unfolding standingMask
+standing-within bs at m d v e =
+    ⊎-elim
+    (λ w. within-lt v m (mask-is bs at m v (w .1) .within))
+    (λ w. let z : 0 ≡ v = value-same (w .1) in let q = pow-pos (m + 1) in omega arith)
     (picked (eqb d 1) e)
 
 -- ---- the field that the program holds

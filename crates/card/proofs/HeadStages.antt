@@ -1,6 +1,6 @@
 -- The reader's parts put together: a fault as it is handed on, and the head field by field.
 use Prim.Native.Nat.{ℕ, _+_, _-_, _*_, _/_, _%_, _^_, _≤_, _<_}
-use mathlib.Core.Path.{_≡_, ap, _∙_}
+use mathlib.Core.Path.{_≡_, sym, ap, _∙_}
 use mathlib.Core.List.{List, []}
 use native.Mathlib.Nat.{mul-le-mul, one-mul}
 use native.Mathlib.Omega.{arith}
@@ -77,3 +77,7 @@ few-bits k p h l = let q : k * p ≤ 4 * 7 = mul-le-mul h l in omega arith
 -- one bit more than the largest map of p streams
 pub top-map : (p : ℕ) → p ≤ 7 → 1 * 2 ^ p % 4294967296 ≡ 2 ^ p
 top-map p h = shl-exact {a = 1} 1 p 32 (omega arith) (omega arith) ∙ one-mul (2 ^ p)
+
+-- the largest map of p streams, as the program writes it
+pub map-limit : (bs : List ℕ) (at p : ℕ) → p ≤ 7 → {f : Field} → byteField bs at 0 (1 * 2 ^ p % 4294967296 - 1) 5 ≡ f → byteField bs at 0 (2 ^ p - 1) 5 ≡ f
+map-limit bs at p h e = ap (λ n. byteField bs at 0 (n - 1) 5) (sym (top-map p h)) ∙ e

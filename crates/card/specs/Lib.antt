@@ -9,3 +9,4 @@ pub mod Layout
 pub mod Promise
 pub mod Registers
 pub mod Parts
+pub mod ErrorMasks

@@ -1,19 +1,14 @@
 -- What the reader's inner functions give, in the published numbers: the parts of a card as the program holds them. Nobody has to believe this
 -- file: it only ties the program's enums and structs to `Reading`.
 -- Assumes nothing.
-use Prim.Native.Nat.{ℕ, _+_, _*_, _/_, _%_, _^_, _-_}
-use mathlib.Core.Bool.{cond}
+use Prim.Native.Nat.{ℕ}
 use mathlib.Core.List.{List, []}
-use lib.ListN.{length, getD, set, replicate}
-use lib.Dec.{ltb, eqb}
-use lib.Bits.{bitOr}
-use Rattle.bits.specs.Sums.{sumBelow, upTo}
-use Rattle.bits.specs.Digits.{dot, fromDigits}
+use lib.ListN.{replicate}
 use Rattle.card.specs.Refusals.{numberOf}
-use Rattle.card.specs.Outcome.{Outcome, CardOutcome, outcomeOf}
+use Rattle.card.specs.Outcome.{Outcome, outcomeOf}
 use Rattle.card.specs.Outcome.Outcome.{accepted, refused}
 use Rattle.card.specs.Fields.{Head, Stream, storeRows, emptyCard, codeOf, withChecks}
-use Rattle.card.specs.Reading.{Field, Read, readGenerators, readStreams, refusedCard}
+use Rattle.card.specs.Reading.{Field, Read}
 use Rattle.card.specs.Reading.Field.{value, bad}
 use Rattle.card.specs.Reading.Read.{got, fault}
 use Rattle.card.specs.declared.Card.{Card}
@@ -65,12 +60,6 @@ withGenerators c g =
 abbrev pub generatorsPart : Card → Read (List (List ℕ)) → PartOutcome
 generatorsPart c = after (λ rows at. record { outcome = accepted; at = at; card = withGenerators c (storeRows 0 rows (replicate 32 0)) }) refusedPart
 
--- the end of a card whose tables of checks are read
-abbrev pub lastOutcome : List ℕ → Card → List ℕ → List ℕ → ℕ → CardOutcome
-lastOutcome bs c counts checks at =
-    cond (ltb at (length bs))
-    (refusedCard 10 at)
-    (record {
-      outcome = accepted;
-      card = record { number = c .number; k = c .k; p = c .p; m = c .m; generators = c .generators; counts = counts; checks = checks };
-    })
+-- a card with its checks
+abbrev pub checksPart : Card → Read (List Stream) → PartOutcome
+checksPart c = after (λ streams at. record { outcome = accepted; at = at; card = withChecks c streams }) refusedPart

@@ -33,7 +33,7 @@ pub(crate) fn empty_card() -> Card
     }
 }
 
-fn refused_part(verdict: Verdict) -> Part
+pub(crate) fn refused_part(verdict: Verdict) -> Part
     ensures { λ r. ⌜ r ≡ record { verdict = verdict; at = 0; card = emptyCard } ⌝ }
 {
     Part {
