@@ -8,10 +8,14 @@ use lib.IntN.{ℤ, pos, negℤ}
 use borrow.Author.Tests.{lt-ltb, le-ltb}
 use Rattle.bits.specs.Digits.{anyBeyond}
 use Rattle.card.specs.Code.{sent}
+use Rattle.card.specs.Outcome.{Outcome, accepted, refused, outcomeOf, CardOutcome}
+use Rattle.card.specs.Promise.{CardPromise}
+use Rattle.card.specs.Reading.{readCard}
 use Rattle.card.specs.declared.Card.{Card}
+use Rattle.card.specs.declared.CardRead.{CardRead}
 use Rattle.card.proofs.Sent.{sent-length}
-use Rattle.burst.specs.Outcome.{outcome, refusedOf, givenOf}
-use Rattle.burst.specs.Sending.{sendUnder}
+use Rattle.burst.specs.Outcome.{BurstOutcome, outcome, refusedOf, givenOf, underCard}
+use Rattle.burst.specs.Sending.{sendUnder, sendOf}
 
 pub refused-is : {answer : ℤ} (n : ℕ) (output : List ℕ) → answer ≡ negℤ (pos n) → outcome answer output ≡ refusedOf n output
 unfolding refusedOf
@@ -41,3 +45,16 @@ module _ (c : Card) (input output : List ℕ) where
       pub under-sent : anyBeyond (c .k) input ≡ false → sendUnder c input output ≡ givenOf (sent c input) output
       unfolding sendUnder
       under-sent b = rw (sent-length c input, le-ltb 1048576 (length input + c .m) r, le-ltb (length output) (length input + c .m) o, b)
+
+-- with the card's bytes
+module _ (bytes : List ℕ) (read : CardRead) (promise : CardPromise bytes read) (input output : List ℕ) where
+  pub sent-under : {burst : BurstOutcome} → outcomeOf (read .verdict) ≡ accepted → burst ≡ sendUnder (read .card) input output → burst ≡ sendOf bytes input output
+  unfolding sendOf underCard
+  sent-under e q =
+      q ∙ ap (λ (o : Outcome). underCard o (sendUnder (read .card) input output) output) (sym e)
+      ∙ ap (λ (r : CardOutcome). underCard (r .outcome) (sendUnder (r .card) input output) output) (promise .is-read)
+
+  pub refused-by-card : {answer : ℤ} {n at : ℕ} → outcomeOf (read .verdict) ≡ refused n at → answer ≡ negℤ (pos n) → outcome answer output ≡ sendOf bytes input output
+  unfolding sendOf underCard
+  refused-by-card {n = n} e q =
+      refused-is n output q ∙ ap (λ (o : Outcome). underCard o (sendUnder (readCard bytes .card) input output) output) (sym e ∙ ap (λ (r : CardOutcome). r .outcome) (promise .is-read))

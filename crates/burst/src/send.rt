@@ -7,11 +7,12 @@ ghost use Rattle.card.specs.Code.{sent};
 ghost use Rattle.card.specs.Guarantees.{Guarantees};
 ghost use Rattle.card.specs.declared.Card.{Card};
 ghost use Rattle.burst.specs.Outcome.{outcome};
-ghost use Rattle.burst.specs.Sending.{Names, sendUnder};
+ghost use Rattle.burst.specs.Sending.{Names, sendUnder, sendOf};
 use crate::answer::frames;
 use crate::answer::refused;
 use card::Card;
 use card::Refusal;
+use card::Verdict;
 
 // The information frame of time `at`, zero after the last one: the tail's.
 fn information(input: &[u8], at: usize) -> u32
@@ -36,10 +37,10 @@ fn send_frames(
     requires { ⌜ length (now input) + m ≤ length (now output) ⌝ }
     ensures { λ _. ⌜ ((c : Card) → Names c (now (generators .entry)) k p m → now (output .exit) ≡ sent c (now (input .entry)) ++ drop (length (now (input .entry)) + m) (now (output .entry))) ⌝ }
 {
-    let count = input.len() + m;
+    let end = input.len() + m;
     let mut registers = [0u32; 4];
     let mut at = 0;
-    while at < count {
+    while at < end {
         let info = information(input, at);
         registers = card::code::history(&registers, k, info);
         output[at] = card::code::frame(generators, &registers, k, p, info) as u8;
@@ -66,4 +67,18 @@ fn send_under(card: Card, input: &[u8], output: &mut [u8]) -> i32
     let generators = card.generators;
     send_frames(&generators, card.k, card.p, m, input, output);
     frames(count)
+}
+
+// Sends a whole burst: the count of output frames, information and tail, or minus the refusal. Only that many bytes of the output are written,
+// and a refused call writes none.
+#[no_mangle]
+pub extern "C" fn burst_send(card: &[u8], input: &[u8], output: &mut [u8]) -> i32
+    ensures { λ r. ⌜ outcome r (now (output .exit)) ≡ sendOf (now (card .entry)) (now (input .entry)) (now (output .entry)) ⌝ }
+{
+    let read = card::read_card(card);
+    let verdict = read.verdict;
+    match verdict {
+        Verdict::Accepted => send_under(read.card, input, output),
+        Verdict::Refused { refusal, offset: _ } => refused(refusal),
+    }
 }

@@ -17,6 +17,7 @@ pub mod Judging
 pub mod RestChecks
 pub mod CheckLoops
 pub mod WholeCard
+pub mod RefusedCard
 -- accepted exactly when
 pub mod Stores
 pub mod CardTables

@@ -99,12 +99,15 @@ module _ (g h : List ℕ) (k f : ℕ) where
       let l = cond-le (ltb s (min k 4)) (bit f s) (parityBy g h k (s - min k 4)) 1 (bit-le f s) (parity-by-le g h k (s - min k 4)) in
       omega arith
 
-  -- a frame is a byte
-  pub frame-lt : (p : ℕ) → frameBy g h k p f < 2 ^ 8
+  frame-lt : (p : ℕ) → frameBy g h k p f < 2 ^ 8
   unfolding frameBy
   frame-lt p =
       lt-of-lt-of-le (from-digits-lt (min k 4 + min p (8 - min k 4)) (digitBy g h k f) (λ s l. digit-by-lt s))
       (pow-mono {i = min k 4 + min p (8 - min k 4)} {j = 8} (omega arith))
+
+  -- a frame is a byte
+  pub frame-fits : (p : ℕ) {x : ℕ} → x ≡ frameBy g h k p f → x < 2 ^ 8
+  frame-fits p e = omega (arith, frame-lt p)
 
   -- its information digits
   pub frame-start : f % shiftUp 1 (min k 4) ≡ fromDigits (min k 4 + 0) (digitBy g h k f)

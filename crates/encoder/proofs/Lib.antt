@@ -1,3 +1,4 @@
 pub mod Outcomes
 pub mod Calls
 pub mod Claim
+pub mod Opening

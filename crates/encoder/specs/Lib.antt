@@ -2,3 +2,4 @@ pub mod Outcome
 pub mod Sending
 pub mod Calls
 pub mod Claims
+pub mod Opening

@@ -12,9 +12,13 @@ use Rattle.card.specs.declared.Card.{Card}
 use Rattle.encoder.specs.Outcome.{frame, refused, SendOutcome}
 use Rattle.encoder.specs.declared.Session.{Session}
 
--- the session before its first frame
+-- a session before its first frame, with n information frames counted as taken
+abbrev pub unsentOf : Card → ℕ → Session
+unsentOf c n = record { card = c; history = replicate 4 0; sent = n; tail = 0 }
+
+-- the session that is opened with an accepted card
 unfoldable pub openOf : Card → Session
-openOf c = record { card = c; history = replicate 4 0; sent = 0; tail = 0 }
+openOf c = unsentOf c 0
 
 -- "A refused call hands back the number, the former state"
 unfoldable pub refusedOf : Session → ℕ → SendOutcome

@@ -1,10 +1,12 @@
 // The sending session: information frames, then the tail.
 ghost use mathlib.Core.Path.{_≡_};
 ghost use Rattle.card.specs.Refusals.{numberOf};
+ghost use Rattle.encoder.specs.Opening.{OpenPromise};
 ghost use Rattle.encoder.specs.Outcome.{published};
-ghost use Rattle.encoder.specs.Sending.{refusedOf, encodedOf, sendOf, sendTailOf};
+ghost use Rattle.encoder.specs.Sending.{unsentOf, refusedOf, encodedOf, sendOf, sendTailOf};
 use card::Card;
 use card::Refusal;
+use card::Verdict;
 
 // A session. What came before its first frame is zero, as the code says.
 pub struct Session {
@@ -23,6 +25,46 @@ pub enum Answer {
 pub struct Sent {
     pub answer: Answer,
     pub session: Session,
+}
+
+// What opening comes to: the verdict of card reading, and the session.
+pub struct Opened {
+    pub verdict: Verdict,
+    pub session: Session,
+}
+
+// A session before its first frame, with so many information frames counted as taken.
+fn unsent(card: Card, sent: u32) -> Session
+    ensures { λ r. ⌜ r ≡ unsentOf card sent ⌝ }
+{
+    Session {
+        card,
+        history: [0u32; 4],
+        sent,
+        tail: 0,
+    }
+}
+
+// Reads the card. A refused opening hands out a session with the empty card and no room left, so that it refuses every call.
+pub fn open(card: &[u8]) -> Opened
+    ensures { λ r. ⌜ OpenPromise (now (card .entry)) r ⌝ }
+{
+    let read = card::read_card(card);
+    let verdict = read.verdict;
+    let card = read.card;
+    match verdict {
+        Verdict::Accepted => {
+            let session = unsent(card, 0);
+            Opened { verdict, session }
+        }
+        Verdict::Refused {
+            refusal: _,
+            offset: _,
+        } => {
+            let session = unsent(card, 1048576);
+            Opened { verdict, session }
+        }
+    }
 }
 
 // A refused call hands the session back as it was.

@@ -1,6 +1,5 @@
-use native.Mathlib.Omega.{arith}
 use borrow.Author.Needs.{needs}
-use Rattle.card.proofs.Registers.{frame-lt}
+use Rattle.card.proofs.Registers.{frame-fits}
 use Rattle.encoder.proofs.Outcomes.{encoded}
 use Rattle.encoder.proofs.encode.Statement.{statement}
 use Rattle.encoder.proofs.encode.Tie as tie
@@ -12,10 +11,7 @@ frame-requires : tie.Need-frame-requires
 frame-requires c κs = search needs
 
 cast-t15 : tie.Need-cast-t15
-cast-t15 c =
-    let a = c .before .before .before .before .before .before .before .before .args in
-    let h = c .before .before .before .history .result in
-    record { fits = omega (arith, c .frame .ensures, frame-lt (a .s .card .generators) h (a .s .card .k) (a .info) (a .s .card .p)) }
+cast-t15 c = record { fits = frame-fits _ _ _ _ _ (c .frame .ensures) }
 
 returns : tie.Need-returns
 returns c =

@@ -7,21 +7,21 @@ use lib.ListN.{length, length-set}
 use Rattle.bits.specs.Sums.{upTo}
 use Rattle.card.specs.Code.{withTail}
 use Rattle.card.specs.declared.Card.{Card}
-use Rattle.card.proofs.Registers.{history-start, frame-lt}
+use Rattle.card.proofs.Registers.{history-start, frame-fits}
 use Rattle.burst.specs.Sending.{Names}
 use Rattle.burst.proofs.Sending.{SentBefore, sent-turn, sent-end}
 use Rattle.burst.proofs.send.send_frames.Statement.{statement}
 use Rattle.burst.proofs.send.send_frames.Tie as tie
 
 abbrev Inv-loop : tie.InvT-loop
-Inv-loop generators k p m input output₀ count registers₀ at₀ output registers at =
-    (at ≤ count) × (length output ≡ length output₀) × ((card : Card) → Names card generators k p m → SentBefore card input output₀ at registers output)
+Inv-loop generators k p m input output₀ end registers₀ at₀ output registers at =
+    (at ≤ end) × (length output ≡ length output₀) × ((card : Card) → Names card generators k p m → SentBefore card input output₀ at registers output)
 
 abbrev μ-loop : tie.MeasureT-loop
-μ-loop generators k p m input output₀ count registers₀ at₀ output registers at = count - at
+μ-loop generators k p m input output₀ end registers₀ at₀ output registers at = end - at
 
-add-count : tie.Need-add-count Inv-loop μ-loop
-add-count c = omega arith
+add-end : tie.Need-add-end Inv-loop μ-loop
+add-end c = omega arith
 
 loop-holds : tie.Need-loop-holds Inv-loop μ-loop
 unfolding upTo
@@ -37,11 +37,7 @@ frame-requires : tie.Need-frame-requires Inv-loop μ-loop
 frame-requires c κs = tt
 
 cast-output : tie.Need-cast-output Inv-loop μ-loop
-cast-output c =
-    let a = c .before .before .before .before .before .before .before .before .before .args in
-    record {
-      fits = omega (arith, c .frame .ensures, frame-lt (a .generators .now) (c .before .before .history .result) (a .k) (c .before .before .before .before .information .result) (a .p));
-    }
+cast-output c = record { fits = frame-fits _ _ _ _ _ (c .frame .ensures) }
 
 slice-write-output : tie.Need-slice-write-output Inv-loop μ-loop
 slice-write-output c = omega arith
@@ -81,7 +77,7 @@ send-frames-spec =
     (tie.spec
     Inv-loop
     μ-loop
-    add-count
+    add-end
     loop-holds
     information-requires
     history-requires

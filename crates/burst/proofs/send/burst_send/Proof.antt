@@ -1,0 +1,55 @@
+use mathlib.Core.Path.{refl, ap, _∙_}
+use lib.IntN.{ℤ}
+use borrow.Author.Needs.{needs}
+use Rattle.card.specs.Outcome.{outcomeOf}
+use Rattle.burst.specs.Outcome.{outcome}
+use Rattle.burst.proofs.Answers.{answer-is}
+use Rattle.burst.proofs.Outcomes.{sent-under, refused-by-card}
+use Rattle.burst.proofs.send.burst_send.Statement.{statement}
+use Rattle.burst.proofs.send.burst_send.Tie as tie
+
+read-card-requires : tie.Need-read-card-requires
+read-card-requires c κs = search needs
+
+enum-told : tie.Need-enum-told
+enum-told c = search needs
+
+send-under-requires : tie.Need-send-under-requires
+send-under-requires c κs = c .before .before .before .read-card .ensures .guaranteed (ap outcomeOf (c .before .enum-told .given .1))
+
+enum-known-verdict : tie.Need-enum-known-verdict
+enum-known-verdict c = search needs
+
+refused-requires : tie.Need-refused-requires
+refused-requires c κs = search needs
+
+same-length : tie.Need-same-length
+same-length c = search needs
+
+returns : tie.Need-returns
+returns c =
+    let a = c .before .before .before .before .before .before .before .before .before .before .args in
+    let read = c .before .before .before .before .before .before .read-card in
+    let burst = c .before .before .send-under in
+    sent-under (a .card .now) (read .result) (read .ensures) (a .input .now) (a .output .now) (ap outcomeOf (c .before .before .before .before .enum-told .given .1))
+    (ap (λ (z : ℤ). outcome z (burst .last .1 .1 .0)) (answer-is (burst .result) (burst .ok) refl) ∙ burst .ensures)
+
+returns-2 : tie.Need-returns-2
+returns-2 c =
+    let a = c .before .before .before .before .before .before .before .before .args in
+    let read = c .before .before .before .before .read-card in
+    refused-by-card (a .card .now) (read .result) (read .ensures) (a .input .now) (a .output .now) (ap outcomeOf (c .before .before .verdict .given .1))
+    (answer-is (c .refused .result) (c .refused .ok) (c .refused .ensures))
+
+pub burst-send-spec : {M : Type 1} → statement M
+burst-send-spec =
+    tie.close
+    (tie.spec
+    read-card-requires
+    enum-told
+    send-under-requires
+    enum-known-verdict
+    refused-requires
+    same-length
+    returns
+    returns-2)
