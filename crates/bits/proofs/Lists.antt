@@ -1,5 +1,5 @@
 -- Lists that a function gives, and arrays that a loop fills from the front.
-use Prim.Native.Nat.{ℕ, zero, suc, _+_, _≤_, _<_}
+use Prim.Native.Nat.{ℕ, zero, suc, _+_, _-_, _≤_, _<_}
 use mathlib.Core.Path.{_≡_, refl, sym, ap, ap₂, _∙_}
 use mathlib.Core.Logic.{⊎-elim}
 use mathlib.Core.List.{List, [], _∷_, _++_, append-assoc}
@@ -7,7 +7,7 @@ use native.Mathlib.Nat.{add-zero, le-antisymm, eq-or-lt-of-le}
 use native.Mathlib.Numerals.{add-one}
 use native.Mathlib.Omega.{arith}
 use lib.ListN.{length, getD, take, drop, set, replicate, length-append, length-drop, List·getD-append, List·getD-eq-default}
-use lib.Seq.{drop-cons, drop-drop, getD-drop, set-at, getD-at, take-suc-set, take-all}
+use lib.Seq.{drop-cons, drop-drop, getD-drop, getD-append-add, set-at, getD-at, take-suc-set, take-all}
 use Rattle.bits.specs.Sums.{upTo}
 use Rattle.bits.proofs.Cases.{le-or-lt, last-or-below}
 
@@ -94,3 +94,12 @@ part-length f z i h = length-append (upTo i f) (drop i z) ∙ omega (arith, upTo
 
 pub part-at : (f : ℕ → ℕ) (z : List ℕ) (n j : ℕ) → j < n → getD (upTo n f ++ drop n z) j 0 ≡ f j
 part-at f z n j h = List·getD-append (upTo n f) (drop n z) 0 j (omega (arith, upTo-length n f)) ∙ upTo-at n f j h
+
+pub part-rest : (f : ℕ → ℕ) (z : List ℕ) (n j : ℕ) → n ≤ j → getD (upTo n f ++ drop n z) j 0 ≡ getD z j 0
+part-rest f z n j h =
+    let e : j ≡ length (upTo n f) + (j - n) = omega (arith, upTo-length n f) in
+    let q : n + (j - n) ≡ j = omega arith in
+    ap (λ x. getD (upTo n f ++ drop n z) x 0) e
+    ∙ getD-append-add (upTo n f) (drop n z) (j - n) 0
+    ∙ getD-drop n z (j - n) 0
+    ∙ ap (λ x. getD z x 0) q

@@ -1,3 +1,11 @@
 pub mod Answers
 pub mod Outcomes
 pub mod Sending
+pub mod TakingIn
+pub mod Voting
+pub mod Coming
+pub mod Following
+pub mod Deciding
+pub mod Waiting
+pub mod HandingOut
+pub mod Received

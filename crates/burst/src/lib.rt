@@ -1,3 +1,4 @@
 // Whole bursts of frames, for the controller firmware.
 mod answer;
+pub mod receive;
 pub mod send;

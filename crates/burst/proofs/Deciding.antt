@@ -1,0 +1,151 @@
+-- The decision: with the frame of time t taken in, the registers decide the errors of time t - m as the rule does, and with these taken out they
+-- are ready for the frame of time t + 1.
+use Prim.Native.Nat.{ℕ, suc, _+_, _-_, _*_, _%_, _^_, _≤_, _<_}
+use mathlib.Core.Path.{_≡_, refl, sym, ap, ap₂, _∙_}
+use mathlib.Core.Bool.{cond}
+use mathlib.Core.Logic.{⊎-elim}
+use mathlib.Core.List.{List, [], _∷_, _++_}
+use native.Mathlib.Nat.{mod-eq-of-lt, add-mod-mod, mod-lt, add-zero}
+use native.Mathlib.Omega.{arith}
+use lib.ListN.{length, getD}
+use lib.Dec.{leb, ltb}
+use lib.Bits.{bitXor, xor-lt}
+use lib.Pow.{pow-pos}
+use borrow.Author.Tests.{lt-ltb, le-ltb, le-leb, lt-leb}
+use Rattle.bits.specs.Sums.{sumBelow, back}
+use Rattle.bits.specs.Digits.{bit, dot}
+use Rattle.bits.proofs.Sums.{sum-same, sum-cong, sum-cut, sum-none}
+use Rattle.bits.proofs.Lists.{part-at}
+use Rattle.bits.proofs.Back.{back-in, back-out, back-suc}
+use Rattle.bits.proofs.Cases.{le-or-lt}
+use Rattle.bits.proofs.Digits.{bit-lt, bit-high, bit-mod, bit-xor, bit-of-zero, from-digits-same, from-digits-bits}
+use Rattle.card.specs.Code.{generator, digit}
+use Rattle.card.specs.Checks.{count, checkMask}
+use Rattle.card.specs.Guarantees.{Guarantees}
+use Rattle.card.specs.declared.Card.{Card}
+use Rattle.decoder.specs.Rule.{cleared, checkAt, votes, decide, decideFrame, decided, corrected}
+use Rattle.decoder.proofs.Streams.{decided-length, decided-at}
+use Rattle.decoder.proofs.Syndromes.{cleared-fed}
+use Rattle.burst.specs.Registers.{generatorSums, checkBy, votesBy, majorityBy, decideBy, takenOut, Corrected}
+use Rattle.burst.specs.Held.{comingAt, syndromeHeld, Before, With}
+use Rattle.burst.proofs.Coming.{generator-beyond}
+use Rattle.burst.proofs.Following.{sums-bit}
+use Rattle.burst.proofs.Voting.{decide-lt}
+
+module _ (c : Card) (G : Guarantees c) (frames : List ℕ) (t : ℕ) (coming syndromes : List ℕ) (W : With c frames t coming syndromes) (hm : c .m ≤ t) where
+  -- place a has the syndrome of time t - m + a
+  held-then : (j a : ℕ) → j < c .p → a ≤ c .m → bit (getD syndromes j 0) a ≡ cleared c frames (decided c frames (t - c .m)) (t - c .m + a) j
+  unfolding syndromeHeld
+  held-then j a hj ha =
+      let errors = decided c frames (t - c .m) in
+      let z : t - (c .m - a) ≡ t - c .m + a = omega arith in
+      W .held-at j a hj
+      ∙ ap (λ b. cond b (syndromeHeld c frames t j a) 0) (le-leb a (c .m) ha)
+      ∙ back-in (λ v. cleared c frames errors v j) t (c .m - a) (omega arith)
+      ∙ ap (λ v. cleared c frames errors v j) z
+
+  held-beyond : (j a : ℕ) → j < c .p → c .m < a → bit (getD syndromes j 0) a ≡ 0
+  held-beyond j a hj ha = W .held-at j a hj ∙ ap (λ b. cond b (syndromeHeld c frames t j a) 0) (lt-leb a (c .m) ha)
+
+  check-is : (i q : ℕ) → checkBy (c .checks) (i * 128 + q * 8) syndromes (c .p) ≡ checkAt c frames (decided c frames (t - c .m)) (t - c .m) i q
+  unfolding checkBy checkAt dot checkMask
+  check-is i q = ap (λ x. x % 2) (sum-same (c .p) _ _ part)
+    where
+      part : (j : ℕ) → j < c .p → dot (getD (c .checks) (i * 128 + q * 8 + j) 0) (getD syndromes j 0)
+          ≡ sumBelow (suc (c .m)) (λ a. bit (getD (c .checks) (i * 128 + q * 8 + j) 0) a * cleared c frames (decided c frames (t - c .m)) (t - c .m + a) j)
+      part j hj =
+          let g = getD (c .checks) (i * 128 + q * 8 + j) 0 in
+          sum-cut 32 (suc (c .m)) (λ a. bit g a * bit (getD syndromes j 0) a) (omega (arith, G .m-most))
+          (λ a l. ap (λ x. bit g a * x) (held-beyond j a hj (omega arith)) ∙ omega arith)
+          ∙ sum-same (suc (c .m)) _ _ (λ a l. ap (λ x. bit g a * x) (held-then j a hj (omega arith)))
+
+  majority-is : (i : ℕ) → majorityBy (c .counts) (c .checks) syndromes (c .p) i ≡ decide c frames (decided c frames (t - c .m)) (t - c .m) i
+  unfolding majorityBy votesBy decide votes count
+  majority-is i = ap (λ x. cond (ltb (getD (c .counts) i 0) (2 * x)) 1 0) (sum-cong (getD (c .counts) i 0) (λ q. check-is i q))
+
+  -- the registers decide as the rule does
+  pub decide-is : decideBy (c .counts) (c .checks) syndromes (c .k) (c .p) ≡ decideFrame c frames (decided c frames (t - c .m)) (t - c .m)
+  unfolding decideBy decideFrame
+  decide-is = from-digits-same (c .k) _ _ (λ i l. majority-is i)
+
+  module _ (after : List ℕ) (errors : ℕ) (C : Corrected (generatorSums (c .generators)) (c .counts) (c .checks) syndromes (c .k) (c .p) after errors) where
+    errors-lt : errors < 2 ^ c .k
+    errors-lt = rw (C .errors-are) (decide-lt (c .counts) (c .checks) syndromes (c .p) (c .k))
+
+    -- the generators of the streams in error are taken out, or there is nothing to take out
+    fed-bit : (j a : ℕ) → j < c .p → bit (getD after j 0) a ≡ (bit (getD syndromes j 0) a + sumBelow (c .k) (λ i. generator c i j a * bit errors i)) % 2
+    unfolding takenOut
+    fed-bit j a hj =
+        ⊎-elim
+        (λ (w : (errors ≡ 0) × (after ≡ syndromes)).
+        let z : sumBelow (c .k) (λ i. generator c i j a * bit errors i) ≡ 0 =
+        sum-none (c .k) _ (λ i l. ap (λ e. generator c i j a * bit e i) (w .0) ∙ ap (λ x. generator c i j a * x) (bit-of-zero i) ∙ omega arith) in
+        ap (λ l. bit (getD l j 0) a) (w .1) ∙ omega (arith, bit-lt (getD syndromes j 0) a))
+        (λ w.
+        ap (λ l. bit (getD l j 0) a) w
+        ∙ ap (λ x. bit x a) (part-at (takenOut (generatorSums (c .generators)) syndromes errors) syndromes (c .p) j hj)
+        ∙ bit-xor (getD syndromes j 0) (getD (generatorSums (c .generators)) (errors * 8 + j) 0) a
+        ∙ ap (λ x. (bit (getD syndromes j 0) a + x) % 2) (sums-bit c G errors j a errors-lt hj)
+        ∙ add-mod-mod (bit (getD syndromes j 0) a) _ 2)
+        (C .after-is)
+
+    -- the errors are those of the rule
+    pub errors-is : errors ≡ decideFrame c frames (decided c frames (t - c .m)) (t - c .m)
+    errors-is = C .errors-are ∙ decide-is
+
+    fed-then : (j a : ℕ) → j < c .p → a < c .m
+        → (bit (getD syndromes j 0) (suc a) + sumBelow (c .k) (λ i. generator c i j (suc a) * bit errors i)) % 2 ≡ syndromeHeld c frames (suc t) j a
+    unfolding decided syndromeHeld
+    fed-then j a hj ha =
+        let u = t - c .m in
+        let before = decided c frames u in
+        let v = u + suc a in
+        let n = decided-length c frames u in
+        let r : suc a ≡ v - length before = omega arith in
+        let s : suc t - c .m ≡ suc u = omega arith in
+        let w : suc t - (c .m - a) ≡ v = omega arith in
+        ap (λ x. (x + sumBelow (c .k) (λ i. generator c i j (suc a) * bit errors i)) % 2) (held-then j (suc a) hj (omega arith))
+        ∙ ap (λ b. (cleared c frames before v j + sumBelow (c .k) (λ i. generator c i j b * bit errors i)) % 2) r
+        ∙ sym (cleared-fed before errors v (omega arith) c j (omega arith) frames)
+        ∙ ap (λ e. cleared c frames (before ++ (e ∷ [])) v j) errors-is
+        ∙ ap₂ (λ n v. cleared c frames (decided c frames n) v j) (sym s) (sym w)
+        ∙ sym (back-in (λ v. cleared c frames (decided c frames (suc t - c .m)) v j) (suc t) (c .m - a) (omega arith))
+
+    -- and the registers are ready for the next frame
+    pub fed-back : Before c frames (suc t) coming after
+    fed-back =
+        record {
+          coming-at = λ j a hj. W .coming-at j a hj;
+          held-at = λ j a hj.
+              fed-bit j (suc a) hj
+              ∙ ⊎-elim
+              (λ (l : c .m ≤ a).
+              none j a l (held-beyond j (suc a) hj (omega arith)) ∙ sym (ap (λ b. cond b (syndromeHeld c frames (suc t) j a) 0) (le-ltb a (c .m) l)))
+              (λ (l : a < c .m). fed-then j a hj l ∙ sym (ap (λ b. cond b (syndromeHeld c frames (suc t) j a) 0) (lt-ltb a (c .m) l)))
+              (le-or-lt (c .m) a);
+        }
+      where
+        none : (j a : ℕ) {x : ℕ} → c .m ≤ a → x ≡ 0 → (x + sumBelow (c .k) (λ i. generator c i j (suc a) * bit errors i)) % 2 ≡ 0
+        none j a l e =
+            omega (
+              arith,
+              e,
+              sum-none (c .k) (λ i. generator c i j (suc a) * bit errors i)
+                  (λ i li. ap (λ x. x * bit errors i) (generator-beyond c G i j (suc a) (omega arith)) ∙ omega arith),
+            )
+
+    -- the frame handed out, whatever is decided later
+    pub handed-out : (n : ℕ) → t - c .m < n
+        → bitXor (getD frames (t - c .m) 0 % 2 ^ c .k) errors ≡ corrected c frames (decided c frames n) (t - c .m)
+    unfolding corrected digit
+    handed-out n hn =
+        let u = t - c .m in
+        let f = getD frames u 0 in
+        let x = bitXor (f % 2 ^ c .k) errors in
+        let hx : x < 2 ^ c .k = xor-lt (c .k) (f % 2 ^ c .k) errors (mod-lt f (pow-pos (c .k))) errors-lt in
+        sym (mod-eq-of-lt hx)
+        ∙ sym (from-digits-bits (c .k) x)
+        ∙ from-digits-same (c .k) _ _
+        (λ i l.
+        bit-xor (f % 2 ^ c .k) errors i
+        ∙ ap₂ (λ y e. (y + e) % 2) (bit-mod f (c .k) i l) (ap (λ e. bit e i) (errors-is ∙ sym (decided-at c frames n u hn))))

@@ -1,0 +1,135 @@
+-- A frame taken in: registers that held the stream before it hold the stream with it.
+use Prim.Native.Nat.{ℕ, suc, _+_, _-_, _*_, _/_, _%_, _^_, _≤_, _<_}
+use mathlib.Core.Path.{_≡_, refl, sym, ap, ap₂, _∙_}
+use mathlib.Core.Bool.{cond}
+use mathlib.Core.Logic.{⊎-elim}
+use mathlib.Core.List.{List}
+use native.Mathlib.Nat.{mod-lt, add-mod-mod, add-comm, lt-of-lt-of-le, eq-or-lt-of-le}
+use native.Mathlib.Omega.{arith}
+use lib.ListN.{length, getD}
+use lib.Bits.{bitXor}
+use lib.Dec.{leb, ltb}
+use lib.Pow.{pow-pos, pow-mono}
+use borrow.Author.Tests.{lt-ltb, le-ltb, le-leb, lt-leb}
+use Rattle.bits.specs.Sums.{sumBelow, back}
+use Rattle.bits.specs.Digits.{bit, shiftUp}
+use Rattle.bits.proofs.Sums.{sum-same, sum-cut}
+use Rattle.bits.proofs.Lists.{upTo-at, part-at}
+use Rattle.bits.proofs.Back.{back-in, back-out}
+use Rattle.bits.proofs.Cases.{le-or-lt}
+use Rattle.bits.proofs.Digits.{bit-lt, bit-zero, bit-suc, bit-shift, bit-high, bit-mod, bit-xor, bit-masks, place-same, place-other}
+use Rattle.bits.proofs.Words.{shift-digit}
+use Rattle.card.specs.Code.{generator, digit, parityAt}
+use Rattle.card.specs.Guarantees.{Guarantees}
+use Rattle.card.specs.declared.Card.{Card}
+use Rattle.decoder.specs.Rule.{syndrome, cleared, decided}
+use Rattle.decoder.proofs.Streams.{decided-length}
+use Rattle.decoder.proofs.Syndromes.{syndrome-lt, cleared-lt, cleared-new}
+use Rattle.burst.specs.Registers.{generatorSum, generatorSums, parityWith, comingNext, syndromesNext, TakenIn}
+use Rattle.burst.specs.Held.{comingAt, syndromeHeld, Before, With}
+use Rattle.burst.proofs.Coming.{comingWith, coming-with, coming-now, coming-later}
+
+-- the digits of the table of generator sums
+pub sums-bit : (c : Card) → Guarantees c → (x j a : ℕ) → x < 2 ^ c .k → j < c .p
+    → bit (getD (generatorSums (c .generators)) (x * 8 + j) 0) a ≡ sumBelow (c .k) (λ i. generator c i j a * bit x i) % 2
+unfolding generatorSums generatorSum generator
+sums-bit c G x j a hx hj =
+    let g = c .generators in
+    let lx : x < 16 = lt-of-lt-of-le hx (pow-mono {i = c .k} {j = 4} (G .k-most)) in
+    let lj : j < 8 = omega (arith, G .n-most) in
+    let high : (x * 8 + j) / 8 ≡ x = omega arith in
+    let low : (x * 8 + j) % 8 ≡ j = omega arith in
+    ap (λ y. bit y a) (upTo-at 128 (λ at. generatorSum g (at / 8) (at % 8)) (x * 8 + j) (omega arith) ∙ ap₂ (generatorSum g) high low)
+    ∙ bit-masks 4 (λ i. getD g (i * 8 + j) 0) (bit x) (bit-lt x) a
+    ∙ ap (λ y. y % 2)
+    (sum-cut 4 (c .k) (λ i. bit (getD g (i * 8 + j) 0) a * bit x i) (G .k-most)
+    (λ i l. ap (λ y. bit (getD g (i * 8 + j) 0) a * y) (bit-high x (c .k) i hx l) ∙ omega arith))
+
+pub held-lt : (c : Card) (frames : List ℕ) (t j a : ℕ) → syndromeHeld c frames t j a < 2
+unfolding syndromeHeld
+held-lt c frames t j a =
+    let f : ℕ → ℕ = λ v. cleared c frames (decided c frames (t - c .m)) v j in
+    ⊎-elim (λ (l : c .m - a ≤ t). rw (back-in f t (c .m - a) l) (cleared-lt c frames (decided c frames (t - c .m)) (t - (c .m - a)) j))
+    (λ (l : t < c .m - a). rw (back-out f t (c .m - a) l) (omega arith)) (le-or-lt (c .m - a) t)
+
+-- at place m it is the syndrome of time t, from which nothing is taken out yet
+held-now : (c : Card) (frames : List ℕ) (t j a : ℕ) → a ≡ c .m → syndromeHeld c frames t j a ≡ syndrome c frames t j
+unfolding syndromeHeld
+held-now c frames t j a e =
+    let errors = decided c frames (t - c .m) in
+    let z : t - (c .m - a) ≡ t = omega arith in
+    back-in (λ v. cleared c frames errors v j) t (c .m - a) (omega arith)
+    ∙ ap (λ v. cleared c frames errors v j) z
+    ∙ cleared-new c frames errors t j (omega (arith, decided-length c frames (t - c .m)))
+
+only-first : {x y v : ℕ} → x ≡ v → y ≡ 0 → v < 2 → (x + y) % 2 ≡ v
+only-first e q h = omega arith
+
+only-second : {x y v : ℕ} → x ≡ 0 → y ≡ v → v < 2 → (x + y) % 2 ≡ v
+only-second e q h = omega arith
+
+module _ (c : Card) (G : Guarantees c) (frames : List ℕ) (t f : ℕ) (hf : f ≡ getD frames t 0) (coming syndromes : List ℕ)
+    (B : Before c frames t coming syndromes) where
+  -- the parity register j with the frame
+  parity-bit : (j a : ℕ) → j < c .p → bit (parityWith (generatorSums (c .generators)) coming (c .k) f j) a ≡ comingWith c frames t j a
+  unfolding parityWith digit
+  parity-bit j a hj =
+      bit-xor (getD coming j 0) (getD (generatorSums (c .generators)) (f % 2 ^ c .k * 8 + j) 0) a
+      ∙ ap₂ (λ x y. (x + y) % 2) (B .coming-at j a hj)
+      (sums-bit c G (f % 2 ^ c .k) j a (mod-lt f (pow-pos (c .k))) hj
+      ∙ ap (λ y. y % 2)
+      (sum-same (c .k) _ (λ i. generator c i j a * digit frames i t) (λ i li. ap (λ y. generator c i j a * y) (bit-mod f (c .k) i li ∙ ap (λ y. bit y i) hf))))
+      ∙ add-mod-mod _ _ 2
+      ∙ coming-with c G frames t j a
+
+  coming-bit : (j a : ℕ) → j < c .p → bit (comingNext (generatorSums (c .generators)) coming (c .k) f j) a ≡ comingAt c frames (suc t) j a
+  unfolding comingNext
+  coming-bit j a hj = sym (bit-suc _ a) ∙ parity-bit j (suc a) hj ∙ coming-later c frames t j a
+
+  -- the syndrome of the frame
+  syndrome-is : (j : ℕ) → j < c .p
+      → bitXor (parityWith (generatorSums (c .generators)) coming (c .k) f j) (f / 2 ^ c .k / 2 ^ j) % 2 ≡ syndrome c frames t j
+  unfolding syndrome digit
+  syndrome-is j hj =
+      let z : c .k + (j + 0) ≡ c .k + j = omega arith in
+      sym (bit-zero _)
+      ∙ bit-xor _ (f / 2 ^ c .k / 2 ^ j) 0
+      ∙ ap₂ (λ x y. (x + y) % 2) (parity-bit j 0 hj ∙ coming-now c frames t j)
+      (bit-shift (f / 2 ^ c .k) j 0 ∙ bit-shift f (c .k) (j + 0) ∙ ap₂ bit hf z)
+      ∙ ap (λ x. x % 2) (add-comm (parityAt c frames j t) _)
+
+  held-bit : (j a : ℕ) → j < c .p
+      → bit (syndromesNext (generatorSums (c .generators)) coming syndromes (c .k) (c .m) f j) a ≡ cond (leb a (c .m)) (syndromeHeld c frames t j a) 0
+  unfolding syndromesNext
+  held-bit j a hj =
+      let y = getD syndromes j 0 in
+      let d = syndrome c frames t j in
+      let hd = syndrome-lt c frames t j in
+      ap (λ x. bit (bitXor (y / 2) (shiftUp x (c .m))) a) (syndrome-is j hj)
+      ∙ ap (λ x. bit (bitXor (y / 2) x) a) (shift-digit d (c .m) hd (omega (arith, G .m-most)))
+      ∙ bit-xor (y / 2) (d * 2 ^ c .m) a
+      ∙ ap (λ x. (x + bit (d * 2 ^ c .m) a) % 2) (sym (bit-suc y a) ∙ B .held-at j a hj)
+      ∙ ⊎-elim
+      (λ (l : a ≤ c .m).
+      ⊎-elim
+      (λ (e : a ≡ c .m).
+      only-second (ap (λ b. cond b (syndromeHeld c frames t j a) 0) (le-ltb a (c .m) (omega arith))) (ap (bit (d * 2 ^ c .m)) e ∙ place-same d (c .m) hd) hd
+      ∙ sym (held-now c frames t j a e)
+      ∙ sym (ap (λ b. cond b (syndromeHeld c frames t j a) 0) (le-leb a (c .m) l)))
+      (λ (q : a < c .m).
+      only-first (ap (λ b. cond b (syndromeHeld c frames t j a) 0) (lt-ltb a (c .m) q)) (place-other d (c .m) a hd (λ e. absurd (omega arith))) (held-lt c frames t j a)
+      ∙ sym (ap (λ b. cond b (syndromeHeld c frames t j a) 0) (le-leb a (c .m) l)))
+      (eq-or-lt-of-le l))
+      (λ (l : c .m < a).
+      only-first (ap (λ b. cond b (syndromeHeld c frames t j a) 0) (le-ltb a (c .m) (omega arith))) (place-other d (c .m) a hd (λ e. absurd (omega arith))) (omega arith)
+      ∙ sym (ap (λ b. cond b (syndromeHeld c frames t j a) 0) (lt-leb a (c .m) l)))
+      (le-or-lt a (c .m))
+
+  -- the registers after the frame
+  pub taken-in : {coming' syndromes' : List ℕ} {held : ℕ}
+      → TakenIn (generatorSums (c .generators)) coming syndromes (c .k) (c .p) (c .m) f coming' syndromes' held → With c frames t coming' syndromes'
+  taken-in T =
+      record {
+        coming-at = λ j a hj. ap (λ l. bit (getD l j 0) a) (T .coming-is) ∙ ap (λ x. bit x a) (part-at _ coming (c .p) j hj) ∙ coming-bit j a hj;
+        held-at = λ j a hj. ap (λ l. bit (getD l j 0) a) (T .syndromes-is) ∙ ap (λ x. bit x a) (part-at _ syndromes (c .p) j hj) ∙ held-bit j a hj;
+      }

@@ -1,0 +1,95 @@
+-- What receiving a burst comes to under each condition, and that a correctable burst comes out as sent.
+use Prim.Native.Nat.{ℕ, _+_, _-_, _≤_, _<_}
+use mathlib.Core.Path.{_≡_, refl, sym, ap, _∙_, subst}
+use mathlib.Core.Bool.{true, false}
+use mathlib.Core.List.{List, _++_}
+use native.Mathlib.Omega.{arith}
+use lib.ListN.{length, drop, take}
+use lib.Seq.{take-at}
+use lib.IntN.{ℤ, pos, negℤ}
+use borrow.Author.Tests.{lt-ltb, le-ltb}
+use Rattle.bits.specs.Digits.{anyBeyond}
+use Rattle.card.specs.Guarantees.{Guarantees}
+use Rattle.card.specs.Outcome.{Outcome, accepted, refused, outcomeOf, CardOutcome}
+use Rattle.card.specs.Promise.{CardPromise}
+use Rattle.card.specs.Reading.{readCard}
+use Rattle.card.specs.declared.Card.{Card}
+use Rattle.card.specs.declared.CardRead.{CardRead}
+use Rattle.decoder.specs.Rule.{decoded}
+use Rattle.decoder.proofs.Streams.{decoded-length}
+use Rattle.decoder.proofs.Theorem.{decoded-as-sent}
+use Rattle.burst.specs.Outcome.{BurstOutcome, outcome, refusedOf, givenOf, underCard}
+use Rattle.burst.specs.Receiving.{receiveUnder, receiveOf}
+use Rattle.burst.proofs.Outcomes.{refused-is}
+use Rattle.burst.specs.Claims.{Admitted, SentAs, CameOut, ComesOutAsSent}
+
+module _ (c : Card) (input output : List ℕ) where
+  pub receive-full : 1048576 < length input → receiveUnder c input output ≡ refusedOf 15 output
+  unfolding receiveUnder
+  receive-full l = rw (lt-ltb 1048576 (length input) l)
+
+  module _ (r : length input ≤ 1048576) where
+    pub receive-short : length output < length input - c .m → receiveUnder c input output ≡ refusedOf 13 output
+    unfolding receiveUnder
+    receive-short l = rw (le-ltb 1048576 (length input) r, decoded-length c input, lt-ltb (length output) (length input - c .m) l)
+
+    module _ (o : length input - c .m ≤ length output) where
+      pub receive-beyond : anyBeyond (c .k + c .p) input ≡ true → receiveUnder c input output ≡ refusedOf 11 output
+      unfolding receiveUnder
+      receive-beyond b = rw (le-ltb 1048576 (length input) r, decoded-length c input, le-ltb (length output) (length input - c .m) o, b)
+
+      pub receive-given : anyBeyond (c .k + c .p) input ≡ false → receiveUnder c input output ≡ givenOf (decoded c input) output
+      unfolding receiveUnder
+      receive-given b = rw (le-ltb 1048576 (length input) r, decoded-length c input, le-ltb (length output) (length input - c .m) o, b)
+
+-- ---- with the card's bytes
+module _ (bytes : List ℕ) (read : CardRead) (promise : CardPromise bytes read) (input output : List ℕ) where
+  pub received-under : {burst : BurstOutcome} → outcomeOf (read .verdict) ≡ accepted → burst ≡ receiveUnder (read .card) input output
+      → burst ≡ receiveOf bytes input output
+  unfolding receiveOf underCard
+  received-under e q =
+      q ∙ ap (λ (o : Outcome). underCard o (receiveUnder (read .card) input output) output) (sym e)
+      ∙ ap (λ (r : CardOutcome). underCard (r .outcome) (receiveUnder (r .card) input output) output) (promise .is-read)
+
+  pub received-refused : {answer : ℤ} {n at : ℕ} → outcomeOf (read .verdict) ≡ refused n at → answer ≡ negℤ (pos n)
+      → outcome answer output ≡ receiveOf bytes input output
+  unfolding receiveOf underCard
+  received-refused {n = n} e q =
+      refused-is n output q
+      ∙ ap (λ (o : Outcome). underCard o (receiveUnder (readCard bytes .card) input output) output) (sym e ∙ ap (λ (r : CardOutcome). r .outcome) (promise .is-read))
+
+  -- what an accepted card guarantees, of the card by definition
+  guaranteed : readCard bytes .outcome ≡ accepted → Guarantees (readCard bytes .card)
+  guaranteed e =
+      subst Guarantees (ap (λ (r : CardOutcome). r .card) (promise .is-read)) (promise .guaranteed (ap (λ (r : CardOutcome). r .outcome) (promise .is-read) ∙ e))
+
+-- a burst that meets no refusal hands out the rule's frames
+admitted-given : (card input output : List ℕ) → Admitted card input output → receiveOf card input output ≡ givenOf (decoded (readCard card .card) input) output
+unfolding receiveOf underCard
+admitted-given card input output A =
+    ap (λ (o : Outcome). underCard o (receiveUnder (readCard card .card) input output) output) (A .card-accepted)
+    ∙ receive-given (readCard card .card) input output (A .few-enough) (A .output-long-enough) (A .within-streams)
+
+given-came-out : (frames output : List ℕ) {answer : ℤ} {after : List ℕ} → outcome answer after ≡ givenOf frames output → CameOut frames answer after
+unfolding givenOf
+given-came-out frames output e =
+    record {
+      count = ap (λ (b : BurstOutcome). b .answer) e;
+      frames = ap (λ (b : BurstOutcome). take (length frames) (b .output)) e ∙ take-at frames (drop (length frames) output) (length frames) refl;
+    }
+
+-- the third term for a burst
+pub comes-out-as-sent : (bytes : List ℕ) (read : CardRead) → CardPromise bytes read → (input output : List ℕ) {answer : ℤ} {after : List ℕ}
+    → outcome answer after ≡ receiveOf bytes input output → ComesOutAsSent bytes input output answer after
+comes-out-as-sent bytes read promise input output e info A S =
+    let c = readCard bytes .card in
+    let G = guaranteed bytes read promise input output (A .card-accepted) in
+    given-came-out info output
+    (e ∙ admitted-given bytes input output A
+    ∙ ap (λ (l : List ℕ). givenOf l output) (decoded-as-sent c G info input (S .information) (S .whole) (S .correctable)))
+
+-- both clauses of the promise
+pub received : (bytes : List ℕ) (read : CardRead) → CardPromise bytes read → (input output : List ℕ) {answer : ℤ} {after : List ℕ}
+    → outcome answer after ≡ receiveOf bytes input output
+    → (outcome answer after ≡ receiveOf bytes input output) × ComesOutAsSent bytes input output answer after
+received bytes read promise input output e = (e, comes-out-as-sent bytes read promise input output e)

@@ -1,0 +1,63 @@
+-- Each way out of the call by what reading the card came to.
+use mathlib.Core.Path.{refl, ap, _∙_}
+use lib.IntN.{ℤ}
+use Rattle.card.specs.Outcome.{outcomeOf}
+use Rattle.burst.specs.Outcome.{outcome}
+use Rattle.burst.proofs.Answers.{answer-is}
+use Rattle.burst.proofs.Received.{received-under, received-refused, received}
+use borrow.Author.Needs.{needs}
+use Rattle.burst.proofs.receive.burst_receive.Statement.{statement}
+use Rattle.burst.proofs.receive.burst_receive.Tie as tie
+use Rattle.burst.proofs.receive.burst_receive.Reads as reads
+use Rattle.burst.proofs.receive.burst_receive.Lts as lts
+use Rattle.burst.proofs.answer.refused.Reads as refused-reads
+use Rattle.burst.proofs.receive.receive_under.Reads as receive-under-reads
+use Rattle.card.proofs.read_card.Reads as read-card-reads
+
+read-card-requires : tie.Need-read-card-requires
+read-card-requires c κs = search needs
+
+enum-told : tie.Need-enum-told
+enum-told c = search needs
+
+receive-under-requires : tie.Need-receive-under-requires
+receive-under-requires c κs = c .before .before .before .read-card .ensures .guaranteed (ap outcomeOf (c .before .enum-told .given .1))
+
+enum-known-verdict : tie.Need-enum-known-verdict
+enum-known-verdict c = search needs
+
+refused-requires : tie.Need-refused-requires
+refused-requires c κs = search needs
+
+same-length : tie.Need-same-length
+same-length c = search needs
+
+returns : tie.Need-returns
+returns c =
+    let a = c .before .before .before .before .before .before .before .before .before .before .args in
+    let read = c .before .before .before .before .before .before .read-card in
+    let burst = c .before .before .receive-under in
+    received (a .card .now) (read .result) (read .ensures) (a .input .now) (a .output .now)
+    (received-under (a .card .now) (read .result) (read .ensures) (a .input .now) (a .output .now) (ap outcomeOf (c .before .before .before .before .enum-told .given .1))
+    (ap (λ (z : ℤ). outcome z (burst .last .1 .1 .0)) (answer-is (burst .result) (burst .ok) refl) ∙ burst .ensures))
+
+returns-2 : tie.Need-returns-2
+returns-2 c =
+    let a = c .before .before .before .before .before .before .before .before .args in
+    let read = c .before .before .before .before .read-card in
+    received (a .card .now) (read .result) (read .ensures) (a .input .now) (a .output .now)
+    (received-refused (a .card .now) (read .result) (read .ensures) (a .input .now) (a .output .now) (ap outcomeOf (c .before .before .verdict .given .1))
+    (answer-is (c .refused .result) (c .refused .ok) (c .refused .ensures)))
+
+pub burst-receive-spec : {M : Type 1} → statement M
+burst-receive-spec =
+    tie.close
+    (tie.spec
+    read-card-requires
+    enum-told
+    receive-under-requires
+    enum-known-verdict
+    refused-requires
+    same-length
+    returns
+    returns-2)

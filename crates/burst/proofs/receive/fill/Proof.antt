@@ -1,0 +1,70 @@
+-- The loop has taken in the frames that it passed.
+use Prim.Native.Nat.{ℕ, _+_, _-_, _≤_, _<_}
+use mathlib.Core.Path.{_≡_, refl, ap, _∙_}
+use native.Mathlib.Nat.{le-antisymm}
+use native.Mathlib.Omega.{arith}
+use lib.ListN.{length}
+use Rattle.burst.specs.Held.{Carried}
+use Rattle.burst.proofs.Waiting.{coming-length, syndromes-length, wait-more}
+use Rattle.burst.proofs.receive.fill.Statement.{statement}
+use Rattle.burst.proofs.receive.fill.Tie as tie
+use Rattle.burst.proofs.receive.fill.Reads as reads
+use Rattle.burst.proofs.receive.fill.Lts as lts
+use Rattle.burst.proofs.receive.take_in.Reads as take-in-reads
+
+abbrev Inv-loop : tie.InvT-loop
+Inv-loop syndromes₀ coming₀ sums k p m input t₀ syndromes coming t =
+    (t ≤ m) × (length syndromes ≡ 8) × (length coming ≡ 8) × Carried sums k p m input 0 t coming₀ syndromes₀ coming syndromes
+
+abbrev μ-loop : tie.MeasureT-loop
+μ-loop syndromes₀ coming₀ sums k p m input t₀ syndromes coming t = m - t
+
+loop-holds : tie.Need-loop-holds Inv-loop μ-loop
+loop-holds c = (omega arith, omega arith, omega arith, λ number g n checks G e B. B)
+
+shared-slice-read-take-in : tie.Need-shared-slice-read-take-in Inv-loop μ-loop
+shared-slice-read-take-in c = omega arith
+
+take-in-requires : tie.Need-take-in-requires Inv-loop μ-loop
+take-in-requires c κs = omega arith
+
+add-t : tie.Need-add-t Inv-loop μ-loop
+add-t c = omega arith
+
+loop-less : tie.Need-loop-less Inv-loop μ-loop
+loop-less c = omega arith
+
+loop-again : tie.Need-loop-again Inv-loop μ-loop
+loop-again c =
+    let l = c .before .before .before .before .before .loop in
+    let a = c .before .before .before .before .before .before .before .args in
+    let T = c .take-in .ensures in (
+      omega arith,
+      syndromes-length T (omega arith) (l .inv .1),
+      coming-length T (omega arith) (l .inv .2),
+      wait-more (a .input .now) 0 (l .t) (omega arith) T (l .inv .3),
+    )
+
+returns : tie.Need-returns Inv-loop μ-loop
+returns c =
+    let l = c .before .loop in
+    let a = c .before .before .before .args in
+    let e : l .t ≡ a .m = le-antisymm (l .inv .0) (c .loop-test .left) in (
+      l .inv .1,
+      l .inv .2,
+      rw e at (l .inv .3),
+    )
+
+pub fill-spec : {M : Type 1} → statement M
+fill-spec =
+    tie.close
+    (tie.spec
+    Inv-loop
+    μ-loop
+    loop-holds
+    shared-slice-read-take-in
+    take-in-requires
+    add-t
+    loop-less
+    loop-again
+    returns)

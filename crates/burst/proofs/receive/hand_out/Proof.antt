@@ -1,0 +1,110 @@
+-- The loop has handed out the frames m before those that it passed.
+use Prim.Native.Nat.{ℕ, _+_, _-_, _≤_, _<_}
+use mathlib.Core.Path.{_≡_, refl, ap, _∙_}
+use native.Mathlib.Nat.{le-antisymm}
+use native.Mathlib.Omega.{arith}
+use lib.ListN.{length, length-set}
+use Rattle.burst.specs.Held.{HandedOut}
+use Rattle.burst.proofs.Waiting.{coming-length, syndromes-length}
+use Rattle.burst.proofs.HandingOut.{none-written, after-length, errors-small, hand-more, hand-none}
+use Rattle.burst.proofs.receive.hand_out.Statement.{statement}
+use Rattle.burst.proofs.receive.hand_out.Tie as tie
+use Rattle.burst.proofs.receive.hand_out.Reads as reads
+use Rattle.burst.proofs.receive.hand_out.Lts as lts
+use Rattle.burst.proofs.receive.correct.Reads as correct-reads
+use Rattle.burst.proofs.receive.corrected.Reads as corrected-reads
+use Rattle.burst.proofs.receive.take_in.Reads as take-in-reads
+
+abbrev Inv-loop : tie.InvT-loop
+Inv-loop syndromes₀ coming₀ sums counts checks k p m input output₀ t₀ syndromes coming output t =
+    (m ≤ t) × (t ≤ length input) × (length syndromes ≡ 8) × (length coming ≡ 8) × (length output ≡ length output₀)
+    × HandedOut sums counts checks k p m input t coming₀ syndromes₀ output₀ coming syndromes output
+
+abbrev μ-loop : tie.MeasureT-loop
+μ-loop syndromes₀ coming₀ sums counts checks k p m input output₀ t₀ syndromes coming output t = length input - t
+
+loop-holds : tie.Need-loop-holds Inv-loop μ-loop
+loop-holds c =
+    let a = c .before .before .args in (
+      omega arith,
+      omega arith,
+      omega arith,
+      omega arith,
+      omega arith,
+      hand-none (a .sums .now) (a .counts .now) (a .checks .now) (a .input .now) (a .coming .now) (a .syndromes .now) (a .output .now) (a .k) (a .p) (a .m),
+    )
+
+shared-slice-read-take-in : tie.Need-shared-slice-read-take-in Inv-loop μ-loop
+shared-slice-read-take-in c = omega arith
+
+take-in-requires : tie.Need-take-in-requires Inv-loop μ-loop
+take-in-requires c κs = omega arith
+
+correct-requires : tie.Need-correct-requires Inv-loop μ-loop
+correct-requires c κs =
+    let T = c .before .take-in .ensures in
+    let l = c .before .before .before .before .before .before .loop in
+    let h = c .before .before .before .before .before .before .before .before .before .pre in
+    (omega arith, omega arith, h .3, syndromes-length T (omega arith) (l .inv .2), none-written T)
+
+sub-u : tie.Need-sub-u Inv-loop μ-loop
+sub-u c = omega arith
+
+shared-slice-read-corrected : tie.Need-shared-slice-read-corrected Inv-loop μ-loop
+shared-slice-read-corrected c = omega arith
+
+corrected-requires : tie.Need-corrected-requires Inv-loop μ-loop
+corrected-requires c κs = (omega arith, errors-small (c .before .correct .ensures) (omega arith))
+
+slice-write-output : tie.Need-slice-write-output Inv-loop μ-loop
+slice-write-output c = omega arith
+
+add-t : tie.Need-add-t Inv-loop μ-loop
+add-t c = omega arith
+
+loop-less : tie.Need-loop-less Inv-loop μ-loop
+loop-less c = omega arith
+
+loop-again : tie.Need-loop-again Inv-loop μ-loop
+loop-again c =
+    let l = c .before .before .before .before .before .before .before .before .before .loop in
+    let a = c .before .before .before .before .before .before .before .before .before .before .before .before .args in
+    let T = c .before .before .before .before .take-in .ensures in
+    let C = c .before .before .correct .ensures in (
+      omega arith,
+      omega arith,
+      after-length C (omega arith) (syndromes-length T (omega arith) (l .inv .2)),
+      coming-length T (omega arith) (l .inv .3),
+      length-set (l .output) (l .t - a .m) (c .corrected .result) ∙ l .inv .4,
+      hand-more (a .input .now) (l .t) (c .corrected .result) (a .output .now) (l .inv .0) (omega arith) (omega arith) T C (c .corrected .ensures) (l .inv .5),
+    )
+
+same-length : tie.Need-same-length Inv-loop μ-loop
+same-length c = c .before .loop .inv .4
+
+returns : tie.Need-returns Inv-loop μ-loop
+returns c =
+    let l = c .before .loop in
+    let a = c .before .before .before .before .args in
+    let e : l .t ≡ length (a .input .now) = le-antisymm (l .inv .1) (c .loop-test .left) in
+    rw e at (l .inv .5)
+
+pub hand-out-spec : {M : Type 1} → statement M
+hand-out-spec =
+    tie.close
+    (tie.spec
+    Inv-loop
+    μ-loop
+    loop-holds
+    shared-slice-read-take-in
+    take-in-requires
+    correct-requires
+    sub-u
+    shared-slice-read-corrected
+    corrected-requires
+    slice-write-output
+    add-t
+    loop-less
+    loop-again
+    same-length
+    returns)

@@ -1,0 +1,104 @@
+-- Each way out of the call by the tests that led to it.
+use Prim.Native.Nat.{_-_, _≤_, _<_}
+use mathlib.Core.Path.{refl, sym, ap, _∙_}
+use native.Mathlib.Omega.{arith}
+use lib.ListN.{length}
+use lib.IntN.{pos}
+use Rattle.card.specs.Checks.{count}
+use Rattle.decoder.specs.Rule.{decoded}
+use Rattle.decoder.proofs.Streams.{decoded-length}
+use Rattle.burst.proofs.Answers.{answer-is}
+use Rattle.burst.proofs.Outcomes.{refused-is, given-is}
+use Rattle.burst.proofs.Received.{receive-full, receive-short, receive-beyond, receive-given}
+use borrow.Author.Needs.{needs}
+use Rattle.burst.proofs.receive.receive_under.Statement.{statement}
+use Rattle.burst.proofs.receive.receive_under.Tie as tie
+use Rattle.burst.proofs.receive.receive_under.Reads as reads
+use Rattle.burst.proofs.receive.receive_under.Lts as lts
+use Rattle.bits.proofs.any_beyond.Reads as any-beyond-reads
+use Rattle.burst.proofs.answer.frames.Reads as frames-reads
+use Rattle.burst.proofs.answer.refused.Reads as refused-reads
+use Rattle.burst.proofs.receive.after_first.Reads as after-first-reads
+use Rattle.burst.proofs.receive.receive_frames.Reads as receive-frames-reads
+
+refused-requires : tie.Need-refused-requires
+refused-requires c κs = search needs
+
+returns : tie.Need-returns
+returns c =
+    let a = c .before .before .before .before .args in
+    refused-is 15 (a .output .now) (answer-is (c .refused .result) (c .refused .ok) (c .refused .ensures))
+    ∙ sym (receive-full (a .t1) (a .input .now) (a .output .now) (c .before .if1 .taken))
+
+after-first-requires : tie.Need-after-first-requires
+after-first-requires c κs = search needs
+
+refused-requires-2 : tie.Need-refused-requires-2
+refused-requires-2 c κs = search needs
+
+returns-2 : tie.Need-returns-2
+returns-2 c =
+    let a = c .before .before .before .before .before .before .args in
+    let l : length (a .output .now) < length (a .input .now) - a .t1 .m = rw (c .before .before .after-first .ensures) at (c .before .if2 .taken) in
+    refused-is 13 (a .output .now) (answer-is (c .refused2 .result) (c .refused2 .ok) (c .refused2 .ensures))
+    ∙ sym (receive-short (a .t1) (a .input .now) (a .output .now) (c .before .before .before .if1 .left) l)
+
+add-any-beyond : tie.Need-add-any-beyond
+add-any-beyond c = search needs
+
+any-beyond-requires : tie.Need-any-beyond-requires
+any-beyond-requires c κs = search needs
+
+refused-requires-3 : tie.Need-refused-requires-3
+refused-requires-3 c κs = search needs
+
+returns-3 : tie.Need-returns-3
+returns-3 c =
+    let a = c .before .before .before .before .before .before .before .before .args in
+    let o : length (a .input .now) - a .t1 .m ≤ length (a .output .now) = rw (c .before .before .before .before .after-first .ensures) at (c .before .before .before .if2 .left) in
+    refused-is 11 (a .output .now) (answer-is (c .refused3 .result) (c .refused3 .ok) (c .refused3 .ensures))
+    ∙ sym (receive-beyond (a .t1) (a .input .now) (a .output .now) (c .before .before .before .before .before .if1 .left) o (sym (c .before .before .any-beyond .ensures) ∙ c .before .if3 .taken))
+
+receive-frames-requires : tie.Need-receive-frames-requires
+unfolding count
+receive-frames-requires c κs =
+    let G = c .before .before .before .before .before .before .before .before .before .before .before .before .pre in
+    let n = c .before .before .before .before .before .before .before .before .after-first .ensures in
+    let o = c .before .before .before .before .before .before .before .if2 .left in
+    (G .k-most, G .n-most, G .m-most, G .J-most, omega arith)
+
+frames-requires : tie.Need-frames-requires
+frames-requires c κs = search needs
+
+same-length : tie.Need-same-length
+same-length c = search needs
+
+returns-4 : tie.Need-returns-4
+returns-4 c =
+    let start = c .before .before .before .before .before .before .before .before .before .before .before .before .before .before .before .before in
+    let a = start .args in
+    let n = c .before .before .before .before .before .before .before .before .before .before .before .before .after-first .ensures in
+    let o : length (a .input .now) - a .t1 .m ≤ length (a .output .now) = rw n at (c .before .before .before .before .before .before .before .before .before .before .before .if2 .left) in
+    given-is (length (a .input .now) - a .t1 .m) (decoded (a .t1) (a .input .now)) (a .output .now) (decoded-length (a .t1) (a .input .now))
+    (answer-is (c .frames .result) (c .frames .ok) (c .frames .ensures ∙ ap pos n))
+    (c .before .before .before .receive-frames .ensures (a .t1 .number) (start .pre))
+    ∙ sym
+    (receive-given (a .t1) (a .input .now) (a .output .now) (c .before .before .before .before .before .before .before .before .before .before .before .before .before .if1 .left) o (sym (c .before .before .before .before .before .before .before .before .before .before .any-beyond .ensures) ∙ c .before .before .before .before .before .before .before .before .before .if3 .left))
+
+pub receive-under-spec : {M : Type 1} → statement M
+receive-under-spec =
+    tie.close
+    (tie.spec
+    refused-requires
+    returns
+    after-first-requires
+    refused-requires-2
+    returns-2
+    add-any-beyond
+    any-beyond-requires
+    refused-requires-3
+    returns-3
+    receive-frames-requires
+    frames-requires
+    same-length
+    returns-4)

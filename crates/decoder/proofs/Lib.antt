@@ -1,0 +1,5 @@
+pub mod Streams
+pub mod Majority
+pub mod Linear
+pub mod Theorem
+pub mod Syndromes
