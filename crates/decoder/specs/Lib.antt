@@ -1,2 +1,6 @@
 pub mod Rule
 pub mod AsSent
+pub mod Readings
+pub mod Answers
+pub mod Registers
+pub mod Receive

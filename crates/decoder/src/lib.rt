@@ -1,4 +1,177 @@
 // The receiving session: frames in, frames out, by Massey's majority rule with feedback.
-pub fn nothing() -> u8 {
-    0
+mod readings;
+mod registers;
+
+use card::Card;
+use card::Refusal;
+ghost use mathlib.Core.Path.{_≡_};
+ghost use Prim.Native.Nat.{_<_};
+ghost use Rattle.card.specs.Refusals.{numberOf};
+ghost use Rattle.decoder.specs.Answers.{receivedOf};
+ghost use Rattle.decoder.specs.Receive.{streamsOf, refusedOf, withFrame, handingOf, takenOf, receiveByteOf, receiveReadingsOf, linkFigureOf};
+
+// What a session holds between two calls.
+pub struct Session {
+    pub card: Card,
+    pub history: [u32; 4], // bit a of register i: information digit i of the frame a before the last one received
+    pub syndromes: [u32; 8], // bit a of register j: the syndrome of parity stream j, a after the frame that is decided next
+    pub received: u32, // how many frames were taken
+}
+
+// A level, or the mark 'erased'.
+pub enum Reading {
+    Level(f32),
+    Erased,
+}
+
+// What a receiving call answers.
+pub enum Answer {
+    Waiting,
+    Frame(u8),
+    Refused(Refusal),
+}
+
+// The answer, and the session for the next call.
+pub struct Received {
+    pub answer: Answer,
+    pub session: Session,
+}
+
+// A session receives this many frames.
+const MOST_FRAMES: u32 = 1048576;
+
+// n, held to the digits of a byte.
+fn streams(k: usize, p: usize) -> usize
+    ensures { λ r. ⌜ r ≡ streamsOf k p ⌝ }
+{
+    bits::at_most(bits::at_most(k, 4) + bits::at_most(p, 8), 8)
+}
+
+// A refused call hands back the session as it was.
+fn refused(s: Session, refusal: Refusal) -> Received
+    ensures { λ r. ⌜ receivedOf r ≡ refusedOf s (numberOf refusal) ⌝ }
+{
+    Received {
+        answer: Answer::Refused(refusal),
+        session: s,
+    }
+}
+
+// The session with the digits and the syndromes of a frame more, and nothing decided yet.
+fn with_frame(s: Session, frame: u8) -> Session
+    requires { ⌜ s .received < 1048576 ⌝ }
+    ensures { λ r. ⌜ r ≡ withFrame s frame ⌝ }
+{
+    let card = s.card;
+    let before = s.history;
+    let held = s.syndromes;
+    let k = bits::at_most(card.k, 4);
+    let p = bits::at_most(card.p, 8);
+    let place = bits::at_most(s.received as usize, card.m);
+    let digits = frame as u32;
+    let history = card::code::history(&before, k, digits);
+    let syndromes = registers::with_syndromes(
+        &held,
+        &card.generators,
+        &history,
+        k,
+        p,
+        digits,
+        place,
+    );
+    Session {
+        card,
+        history,
+        syndromes,
+        received: s.received + 1,
+    }
+}
+
+// The frame m before the last one received, with its errors decided, and the session with these fed back.
+fn hand_out(s: Session) -> Received
+    ensures { λ r. ⌜ receivedOf r ≡ handingOf s ⌝ }
+{
+    let card = s.card;
+    let history = s.history;
+    let held = s.syndromes;
+    let k = bits::at_most(card.k, 4);
+    let p = bits::at_most(card.p, 8);
+    let errors = registers::decide_frame(&card.checks, &card.counts, &held, k, p);
+    let frame = registers::corrected(&history, errors, k, card.m);
+    let syndromes = registers::fed_back(&held, &card.generators, errors, k, p);
+    Received {
+        answer: Answer::Frame(frame),
+        session: Session {
+            card,
+            history,
+            syndromes,
+            received: s.received,
+        },
+    }
+}
+
+// A frame that is not refused: the first m give 'waiting', each later one the frame m before it.
+fn take(s: Session, frame: u8) -> Received
+    requires { ⌜ s .received < 1048576 ⌝ }
+    ensures { λ r. ⌜ receivedOf r ≡ takenOf s frame ⌝ }
+{
+    let card = s.card;
+    let m = card.m;
+    let received = s.received;
+    let next = with_frame(s, frame);
+    if (received as usize) < m {
+        return Received {
+            answer: Answer::Waiting,
+            session: next,
+        };
+    }
+    hand_out(next)
+}
+
+// Receives a frame as a byte, sent under a card number: refused by 14, 15 or 11, tested in this order, or taken.
+pub fn receive_byte(s: Session, number: u8, frame: u8) -> Received
+    ensures { λ r. ⌜ receivedOf r ≡ receiveByteOf s number frame ⌝ }
+{
+    let card = s.card;
+    let own = card.number;
+    if number != own {
+        return refused(s, Refusal::OtherCardNumber);
+    }
+    let received = s.received;
+    if MOST_FRAMES <= received {
+        return refused(s, Refusal::TooManyFrames);
+    }
+    if bits::beyond(frame, streams(card.k, card.p)) {
+        return refused(s, Refusal::DigitBeyondStreams);
+    }
+    take(s, frame)
+}
+
+// Receives a frame as readings, those after the n-th not looked at: refused by 14, 15 or 12, tested in this order, or taken.
+pub fn receive_readings(s: Session, number: u8, readings: [Reading; 8]) -> Received
+    ensures { λ r. ⌜ receivedOf r ≡ receiveReadingsOf s number readings ⌝ }
+{
+    let card = s.card;
+    let own = card.number;
+    if number != own {
+        return refused(s, Refusal::OtherCardNumber);
+    }
+    let received = s.received;
+    if MOST_FRAMES <= received {
+        return refused(s, Refusal::TooManyFrames);
+    }
+    let read = readings::read_frame(readings, streams(card.k, card.p));
+    match read {
+        readings::ReadFrame::Frame(frame) => take(s, frame),
+        readings::ReadFrame::Refused(refusal) => refused(s, refusal),
+    }
+}
+
+// The link figure: the count of ones in the syndromes that the session still holds.
+pub fn link_figure(s: Session) -> u32
+    ensures { λ r. ⌜ r ≡ linkFigureOf s ⌝ }
+{
+    let card = s.card;
+    let held = s.syndromes;
+    registers::ones(&held, bits::at_most(card.p, 8))
 }
