@@ -2,6 +2,8 @@ pub mod Streams
 pub mod Majority
 pub mod Linear
 pub mod Theorem
+pub mod Feedback
+pub mod Step
 pub mod Bounds
 pub mod Yields
 pub mod Outcomes

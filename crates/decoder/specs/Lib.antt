@@ -4,3 +4,4 @@ pub mod Readings
 pub mod Answers
 pub mod Registers
 pub mod Receive
+pub mod Calls

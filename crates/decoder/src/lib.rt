@@ -41,7 +41,7 @@ pub struct Received {
 const MOST_FRAMES: u32 = 1048576;
 
 // n, held to the digits of a byte.
-fn streams(k: usize, p: usize) -> usize
+fn stream_count(k: usize, p: usize) -> usize
     ensures { λ r. ⌜ r ≡ streamsOf k p ⌝ }
 {
     bits::at_most(bits::at_most(k, 4) + bits::at_most(p, 8), 8)
@@ -141,7 +141,7 @@ pub fn receive_byte(s: Session, number: u8, frame: u8) -> Received
     if MOST_FRAMES <= received {
         return refused(s, Refusal::TooManyFrames);
     }
-    if bits::beyond(frame, streams(card.k, card.p)) {
+    if bits::beyond(frame, stream_count(card.k, card.p)) {
         return refused(s, Refusal::DigitBeyondStreams);
     }
     take(s, frame)
@@ -160,7 +160,7 @@ pub fn receive_readings(s: Session, number: u8, readings: [Reading; 8]) -> Recei
     if MOST_FRAMES <= received {
         return refused(s, Refusal::TooManyFrames);
     }
-    let read = readings::read_frame(readings, streams(card.k, card.p));
+    let read = readings::read_frame(readings, stream_count(card.k, card.p));
     match read {
         readings::ReadFrame::Frame(frame) => take(s, frame),
         readings::ReadFrame::Refused(refusal) => refused(s, refusal),

@@ -25,8 +25,8 @@ returns-2 c =
     let a = c .before .before .before .before .args in
     c .refused2 .ensures ∙ sym (no-room (a .s) (a .number) (byteTaken (a .s) (a .frame)) (c .before .before .if1 .left) (c .before .if2 .taken))
 
-streams-requires : tie.Need-streams-requires
-streams-requires c κs = search needs
+stream-count-requires : tie.Need-stream-count-requires
+stream-count-requires c κs = search needs
 
 beyond-requires : tie.Need-beyond-requires
 beyond-requires c κs = search needs
@@ -42,7 +42,7 @@ returns-3 c =
     c .refused3 .ensures
     ∙ sym
     (admitted (a .s) (a .number) (byteTaken (a .s) (a .frame)) (t .before .before .before .if1 .left) (t .before .before .if2 .left)
-    ∙ byte-beyond (a .s) (a .frame) (ap (λ (n : ℕ). leb (2 ^ n) (a .frame)) (sym (t .before .streams .ensures)) ∙ sym (t .beyond .ensures) ∙ c .before .if3 .taken))
+    ∙ byte-beyond (a .s) (a .frame) (ap (λ (n : ℕ). leb (2 ^ n) (a .frame)) (sym (t .before .stream-count .ensures)) ∙ sym (t .beyond .ensures) ∙ c .before .if3 .taken))
 
 take-requires : tie.Need-take-requires
 take-requires c κs = search needs
@@ -55,7 +55,7 @@ returns-4 c =
     c .take .ensures
     ∙ sym
     (admitted (a .s) (a .number) (byteTaken (a .s) (a .frame)) (t .before .before .before .if1 .left) (t .before .before .if2 .left)
-    ∙ byte-within (a .s) (a .frame) (ap (λ (n : ℕ). leb (2 ^ n) (a .frame)) (sym (t .before .streams .ensures)) ∙ sym (t .beyond .ensures) ∙ c .before .if3 .left))
+    ∙ byte-within (a .s) (a .frame) (ap (λ (n : ℕ). leb (2 ^ n) (a .frame)) (sym (t .before .stream-count .ensures)) ∙ sym (t .beyond .ensures) ∙ c .before .if3 .left))
 
 pub receive-byte-spec : {M : Type 1} → statement M
 receive-byte-spec =
@@ -65,7 +65,7 @@ receive-byte-spec =
     returns
     refused-requires-2
     returns-2
-    streams-requires
+    stream-count-requires
     beyond-requires
     refused-requires-3
     returns-3

@@ -28,8 +28,8 @@ returns-2 c =
     ∙ sym
     (no-room (a .s) (a .number) (yieldTaken (a .s) (readFrameOf (a .readings) (streamsOf (a .s .card .k) (a .s .card .p)))) (c .before .before .if1 .left) (c .before .if2 .taken))
 
-streams-requires : tie.Need-streams-requires
-streams-requires c κs = search needs
+stream-count-requires : tie.Need-stream-count-requires
+stream-count-requires c κs = search needs
 
 read-frame-requires : tie.Need-read-frame-requires
 read-frame-requires c κs = search needs
@@ -51,7 +51,7 @@ unfolding receiveReadingsOf yieldTaken
 returns-3 c =
     let t = c .before .before .before .before in
     let a = t .before .before .before .before .before .args in
-    let y = sym (ap frameYieldOf (c .before .before .read .given .1)) ∙ t .read-frame .ensures ∙ ap (readFrameOf (a .readings)) (t .before .streams .ensures) in
+    let y = sym (ap frameYieldOf (c .before .before .read .given .1)) ∙ t .read-frame .ensures ∙ ap (readFrameOf (a .readings)) (t .before .stream-count .ensures) in
     c .take .ensures ∙ ap (yieldTaken (a .s)) y
     ∙ sym
     (admitted (a .s) (a .number) (yieldTaken (a .s) (readFrameOf (a .readings) (streamsOf (a .s .card .k) (a .s .card .p)))) (t .before .before .before .if1 .left)
@@ -62,7 +62,7 @@ unfolding receiveReadingsOf yieldTaken
 returns-4 c =
     let t = c .before .before .before .before in
     let a = t .before .before .before .before .before .args in
-    let y = sym (ap frameYieldOf (c .before .before .read2 .given .1)) ∙ t .read-frame .ensures ∙ ap (readFrameOf (a .readings)) (t .before .streams .ensures) in
+    let y = sym (ap frameYieldOf (c .before .before .read2 .given .1)) ∙ t .read-frame .ensures ∙ ap (readFrameOf (a .readings)) (t .before .stream-count .ensures) in
     c .refused3 .ensures ∙ ap (yieldTaken (a .s)) y
     ∙ sym
     (admitted (a .s) (a .number) (yieldTaken (a .s) (readFrameOf (a .readings) (streamsOf (a .s .card .k) (a .s .card .p)))) (t .before .before .before .if1 .left)
@@ -76,7 +76,7 @@ receive-readings-spec =
     returns
     refused-requires-2
     returns-2
-    streams-requires
+    stream-count-requires
     read-frame-requires
     enum-known-read
     take-requires
