@@ -7,3 +7,6 @@ pub mod Step
 pub mod Bounds
 pub mod Yields
 pub mod Outcomes
+pub mod Answers
+pub mod Follow
+pub mod ByRule

@@ -1,7 +1,7 @@
 -- One frame: the registers hold the rule's cleared syndromes before it, with it, and once its errors are fed back.
 -- The whole list of received frames is fixed; the frame of time t comes in, and that of time u = t - m, if there is one, is decided.
 use Prim.Native.Nat.{ℕ, suc, _+_, _-_, _*_, _/_, _%_, _^_, _≤_, _<_, min}
-use mathlib.Core.Path.{_≡_, refl, sym, ap, ap₂, _∙_}
+use mathlib.Core.Path.{_≡_, sym, ap, ap₂, _∙_}
 use mathlib.Core.Bool.{cond}
 use mathlib.Core.Logic.{⊎-elim}
 use mathlib.Core.List.{List, [], _∷_, _++_}
@@ -22,7 +22,7 @@ use Rattle.bits.proofs.Words.{shift-digit}
 use Rattle.card.specs.Code.{generator, digit}
 use Rattle.card.specs.Checks.{count, checkMask}
 use Rattle.card.specs.Guarantees.{Guarantees}
-use Rattle.card.specs.Registers.{generatorMask, parityBy}
+use Rattle.card.specs.Registers.{generatorMask}
 use Rattle.card.specs.declared.Card.{Card}
 use Rattle.card.proofs.Registers.{HistoryWith, in-table, parity-next}
 use Rattle.decoder.specs.Rule.{syndrome, cleared, checkAt, votes, decide, decideFrame, decided, corrected}

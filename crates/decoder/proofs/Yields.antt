@@ -1,5 +1,5 @@
 -- What readings yield: a level by its tests against the infinities and zero, and a frame by its readings one after the other.
-use Prim.Native.Nat.{ℕ, zero, suc, _+_, _*_, _≤_, _<_}
+use Prim.Native.Nat.{ℕ, zero, suc, _*_, _<_}
 use mathlib.Core.Path.{_≡_, refl, sym, ap, _∙_}
 use mathlib.Core.Bool.{true, false, false≢true, true≢false}
 use mathlib.Core.List.{List}
@@ -81,9 +81,13 @@ module _ (readings : List Reading) (n : ℕ) where
   unfolding readFrameOf
   read-whole e = rw (le-ltb 0 (faults readings n) (omega arith))
 
+  pub read-faulty : 0 < faults readings n → readFrameOf readings n ≡ refuses 12
+  unfolding readFrameOf
+  read-faulty l = rw (lt-ltb 0 (faults readings n) l)
+
   pub read-refused : (s r : ℕ) → s < n → digitOf (readingAt readings s) ≡ refuses r → readFrameOf readings n ≡ refuses r
-  unfolding readFrameOf faults faultIn
+  unfolding faults faultIn
   read-refused s r l e =
       let f = term-le-sum n (λ s. faultIn (digitOf (readingAt readings s))) s l in
       let one : faultIn (digitOf (readingAt readings s)) ≡ 1 = ap faultIn e in
-      rw (lt-ltb 0 (faults readings n) (omega arith)) (ap refuses (sym (told (readingAt readings s) .by-twelve r e)))
+      read-faulty (omega arith) ∙ ap refuses (sym (told (readingAt readings s) .by-twelve r e))

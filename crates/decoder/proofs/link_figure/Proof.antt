@@ -1,7 +1,4 @@
-use Prim.Native.Nat.{ℕ}
-use mathlib.Core.Path.{ap, _∙_}
 use borrow.Author.Needs.{needs}
-use Rattle.decoder.specs.Registers.{onesBy}
 use Rattle.decoder.specs.Receive.{linkFigureOf}
 use Rattle.decoder.proofs.link_figure.Statement.{statement}
 use Rattle.decoder.proofs.link_figure.Tie as tie

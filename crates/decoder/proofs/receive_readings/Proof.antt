@@ -1,7 +1,6 @@
-use Prim.Native.Nat.{ℕ}
-use mathlib.Core.Path.{_≡_, sym, ap, _∙_}
+use mathlib.Core.Path.{sym, ap, _∙_}
 use borrow.Author.Needs.{needs}
-use Rattle.decoder.specs.Readings.{yields, refuses, frameYieldOf, readFrameOf}
+use Rattle.decoder.specs.Readings.{frameYieldOf, readFrameOf}
 use Rattle.decoder.specs.Receive.{streamsOf, yieldTaken, receiveReadingsOf}
 use Rattle.decoder.proofs.Outcomes.{other-number, no-room, admitted}
 use Rattle.decoder.proofs.receive_readings.Statement.{statement}

@@ -9,7 +9,7 @@ use Rattle.bits.specs.Sums.{sumBelow}
 use Rattle.bits.specs.Digits.{fromDigits}
 use Rattle.bits.proofs.Sums.{sum-more}
 use Rattle.bits.proofs.Words.{placed-lt, placed-fits, placed-more}
-use Rattle.decoder.specs.Readings.{Yield, yields, refuses, yieldOf, digitOf, digitIn, faultIn, readingAt, faults, frameRead, readFrameOf}
+use Rattle.decoder.specs.Readings.{yields, yieldOf, digitOf, digitIn, faultIn, readingAt, faults, frameRead, readFrameOf}
 use Rattle.decoder.proofs.Yields.{told, read-whole, read-refused}
 use Rattle.decoder.proofs.readings.read_frame.Statement.{statement}
 use Rattle.decoder.proofs.readings.read_frame.Tie as tie

@@ -6,8 +6,7 @@ use native.Mathlib.Omega.{arith}
 use lib.ListN.{getD}
 use lib.Pow.{pow-mono}
 use Rattle.bits.specs.Sums.{sumBelow}
-use Rattle.bits.specs.Digits.{bit, fromDigits, shiftUp}
-use Rattle.bits.proofs.Digits.{bit-lt}
+use Rattle.bits.specs.Digits.{bit, fromDigits}
 use Rattle.bits.proofs.Words.{placed-lt, placed-fits, placed-more}
 use Rattle.decoder.specs.Registers.{correctedBy}
 use Rattle.decoder.proofs.registers.corrected.Statement.{statement}
