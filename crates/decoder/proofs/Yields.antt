@@ -1,5 +1,5 @@
--- What readings yield: a level by its tests against the infinities and zero, and a frame by its readings one after the other.
-use Prim.Native.Nat.{ℕ, zero, suc, _*_, _<_}
+-- What frames yield as they come: a level by its tests against the infinities and zero, a byte, and the readings of a frame.
+use Prim.Native.Nat.{ℕ, zero, suc, _*_, _^_, _≤_, _<_}
 use mathlib.Core.Path.{_≡_, refl, sym, ap, _∙_}
 use mathlib.Core.Bool.{true, false, false≢true, true≢false}
 use mathlib.Core.List.{List}
@@ -8,9 +8,9 @@ use native.Mathlib.Omega.{arith}
 use lib.Ieee.{Float, nan, inf, fin, lt, up, down}
 use lib.Ieee.Fits.{up-pos}
 use lib.IntN.{pos}
-use borrow.Author.Tests.{ltb-true, ltb-false, lt-ltb, le-ltb}
+use borrow.Author.Tests.{ltb-true, ltb-false, lt-ltb, le-ltb, lt-leb, le-leb}
 use Rattle.bits.proofs.Sums.{term-le-sum}
-use Rattle.decoder.specs.Readings.{Yield, yields, refuses, digitOfLevel, digitOf, digitIn, faultIn, readingAt, faults, frameRead, readFrameOf}
+use Rattle.decoder.specs.Readings.{Yield, yields, refuses, digitOfLevel, digitOf, digitIn, faultIn, readingAt, faults, frameRead, readByteOf, readFrameOf}
 use Rattle.decoder.specs.declared.Reading.{Reading}
 use Rattle.decoder.specs.declared.Reading.the-variants.{Level, Erased}
 
@@ -74,6 +74,16 @@ pub told : (r : Reading) → Told (digitOf r)
 unfolding digitOf
 told Erased = told-digit 0 (omega arith)
 told (Level x) = told-level x
+
+-- ---- a byte
+module _ (f n : ℕ) where
+  pub byte-within : f < 2 ^ n → readByteOf f n ≡ yields f
+  unfolding readByteOf
+  byte-within l = rw (lt-leb (2 ^ n) f l)
+
+  pub byte-beyond : 2 ^ n ≤ f → readByteOf f n ≡ refuses 11
+  unfolding readByteOf
+  byte-beyond l = rw (le-leb (2 ^ n) f l)
 
 -- ---- the readings of a frame
 module _ (readings : List Reading) (n : ℕ) where

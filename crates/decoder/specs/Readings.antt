@@ -1,10 +1,10 @@
--- What readings yield: document 01, "Readings and bursts".
+-- What a frame yields that comes as a byte or as readings: document 01, "Readings and bursts".
 -- Assumes nothing.
-use Prim.Native.Nat.{ℕ, zero, suc}
+use Prim.Native.Nat.{ℕ, zero, suc, _^_}
 use mathlib.Core.Bool.{true, false, cond}
 use mathlib.Core.List.{List}
 use lib.ListN.{getD}
-use lib.Dec.{ltb}
+use lib.Dec.{leb, ltb}
 use lib.Ieee.{Float, nan, inf, fin}
 use Rattle.bits.specs.Sums.{sumBelow}
 use Rattle.bits.specs.Digits.{fromDigits}
@@ -56,6 +56,10 @@ faults readings n = sumBelow n (λ s. faultIn (digitOf (readingAt readings s)))
 -- the frame that the first n readings make, digit s from reading s
 unfoldable pub frameRead : List Reading → ℕ → ℕ
 frameRead readings n = fromDigits n (λ s. digitIn (digitOf (readingAt readings s)))
+
+-- a byte is its frame, unless it has a digit beyond its n streams
+unfoldable pub readByteOf : ℕ → ℕ → Yield
+readByteOf f n = cond (leb (2 ^ n) f) (refuses 11) (yields f)
 
 -- what the readings of a frame yield; those after the n-th are not looked at
 unfoldable pub readFrameOf : List Reading → ℕ → Yield

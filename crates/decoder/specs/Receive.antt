@@ -2,14 +2,14 @@
 -- streams are held to what the tables have. The refusals are those of document 01, in its order; the rest is tied to the rule by
 -- proofs/Follow.antt.
 -- Assumes nothing.
-use Prim.Native.Nat.{ℕ, _+_, _^_, min}
+use Prim.Native.Nat.{ℕ, _+_, min}
 use mathlib.Core.Bool.{cond}
 use mathlib.Core.List.{List}
 use lib.ListN.{replicate}
-use lib.Dec.{leb, ltb, eqb}
+use lib.Dec.{ltb, eqb}
 use Rattle.card.specs.Registers.{historyBy}
 use Rattle.card.specs.declared.Card.{Card}
-use Rattle.decoder.specs.Readings.{Yield, yields, refuses, readFrameOf}
+use Rattle.decoder.specs.Readings.{Yield, yields, refuses, readByteOf, readFrameOf}
 use Rattle.decoder.specs.Answers.{Reply, waiting, frame, refused}
 use Rattle.decoder.specs.Registers.{withSyndromes, decideFrameBy, correctedBy, fedBackBy, onesBy}
 use Rattle.decoder.specs.declared.Session.{Session}
@@ -72,27 +72,23 @@ takenOf s f = cond (ltb (s .received) (s .card .m)) (record { answer = waiting; 
 unfoldable pub refusedOf : Session → ℕ → Reply
 refusedOf s n = record { answer = refused n; session = s }
 
--- 14, the frame's card number isn't the session's, then 15, 1,048,576 frames received; then what the frame itself gives
-unfoldable pub byState : Session → ℕ → Reply → Reply
-byState s number r =
-    cond (eqb number (s .card .number)) (cond (ltb (s .received) 1048576) r (refusedOf s 15)) (refusedOf s 14)
-
--- a byte: 11, a frame has a digit beyond its streams
-unfoldable pub byteTaken : Session → ℕ → Reply
-byteTaken s f = cond (leb (2 ^ streamsOf (s .card .k) (s .card .p)) f) (refusedOf s 11) (takenOf s f)
-
--- what readings yield: 12, a level is infinite or not a number
+-- a frame that is not refused because of the state: its own refusal, or taken
 unfoldable pub yieldTaken : Session → Yield → Reply
 yieldTaken s (yields f) = takenOf s f
 yieldTaken s (refuses n) = refusedOf s n
 
+-- 14, the frame's card number isn't the session's; then 15, 1,048,576 frames received; then 11 or 12, the frame's own refusal
+unfoldable pub receiveOf : Session → ℕ → Yield → Reply
+receiveOf s number y =
+    cond (eqb number (s .card .number)) (cond (ltb (s .received) 1048576) (yieldTaken s y) (refusedOf s 15)) (refusedOf s 14)
+
 -- a frame as a byte
 unfoldable pub receiveByteOf : Session → ℕ → ℕ → Reply
-receiveByteOf s number f = byState s number (byteTaken s f)
+receiveByteOf s number f = receiveOf s number (readByteOf f (streamsOf (s .card .k) (s .card .p)))
 
 -- a frame as readings
 unfoldable pub receiveReadingsOf : Session → ℕ → List Reading → Reply
-receiveReadingsOf s number readings = byState s number (yieldTaken s (readFrameOf readings (streamsOf (s .card .k) (s .card .p))))
+receiveReadingsOf s number readings = receiveOf s number (readFrameOf readings (streamsOf (s .card .k) (s .card .p)))
 
 -- the link figure
 unfoldable pub linkFigureOf : Session → ℕ

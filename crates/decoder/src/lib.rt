@@ -4,11 +4,13 @@ mod registers;
 
 use card::Card;
 use card::Refusal;
+use readings::ReadFrame;
 ghost use mathlib.Core.Path.{_≡_};
 ghost use Prim.Native.Nat.{_<_};
 ghost use Rattle.card.specs.Refusals.{numberOf};
 ghost use Rattle.decoder.specs.Answers.{receivedOf};
-ghost use Rattle.decoder.specs.Receive.{streamsOf, refusedOf, withFrame, handingOf, takenOf, receiveByteOf, receiveReadingsOf, linkFigureOf};
+ghost use Rattle.decoder.specs.Readings.{frameYieldOf};
+ghost use Rattle.decoder.specs.Receive.{streamsOf, refusedOf, withFrame, handingOf, takenOf, receiveOf, receiveByteOf, receiveReadingsOf, linkFigureOf};
 
 // What a session holds between two calls.
 pub struct Session {
@@ -79,11 +81,12 @@ fn with_frame(s: Session, frame: u8) -> Session
         digits,
         place,
     );
+    let received = s.received + 1;
     Session {
         card,
         history,
         syndromes,
-        received: s.received + 1,
+        received,
     }
 }
 
@@ -128,43 +131,41 @@ fn take(s: Session, frame: u8) -> Received
     hand_out(next)
 }
 
-// Receives a frame as a byte, sent under a card number: refused by 14, 15 or 11, tested in this order, or taken.
+// A frame, or its refusal, under a card number: refused by 14, then 15, then its own refusal, or taken.
+fn receive(s: Session, number: u8, read: ReadFrame) -> Received
+    ensures { λ r. ⌜ receivedOf r ≡ receiveOf s number (frameYieldOf read) ⌝ }
+{
+    let card = s.card;
+    let own = card.number;
+    if number != own {
+        return refused(s, Refusal::OtherCardNumber);
+    }
+    let received = s.received;
+    if MOST_FRAMES <= received {
+        return refused(s, Refusal::TooManyFrames);
+    }
+    match read {
+        ReadFrame::Frame(frame) => take(s, frame),
+        ReadFrame::Refused(refusal) => refused(s, refusal),
+    }
+}
+
+// Receives a frame as a byte, sent under a card number.
 pub fn receive_byte(s: Session, number: u8, frame: u8) -> Received
     ensures { λ r. ⌜ receivedOf r ≡ receiveByteOf s number frame ⌝ }
 {
     let card = s.card;
-    let own = card.number;
-    if number != own {
-        return refused(s, Refusal::OtherCardNumber);
-    }
-    let received = s.received;
-    if MOST_FRAMES <= received {
-        return refused(s, Refusal::TooManyFrames);
-    }
-    if bits::beyond(frame, stream_count(card.k, card.p)) {
-        return refused(s, Refusal::DigitBeyondStreams);
-    }
-    take(s, frame)
+    let read = readings::read_byte(frame, stream_count(card.k, card.p));
+    receive(s, number, read)
 }
 
-// Receives a frame as readings, those after the n-th not looked at: refused by 14, 15 or 12, tested in this order, or taken.
+// Receives a frame as eight readings, sent under a card number. Readings after the n-th are not looked at.
 pub fn receive_readings(s: Session, number: u8, readings: [Reading; 8]) -> Received
     ensures { λ r. ⌜ receivedOf r ≡ receiveReadingsOf s number readings ⌝ }
 {
     let card = s.card;
-    let own = card.number;
-    if number != own {
-        return refused(s, Refusal::OtherCardNumber);
-    }
-    let received = s.received;
-    if MOST_FRAMES <= received {
-        return refused(s, Refusal::TooManyFrames);
-    }
     let read = readings::read_frame(readings, stream_count(card.k, card.p));
-    match read {
-        readings::ReadFrame::Frame(frame) => take(s, frame),
-        readings::ReadFrame::Refused(refusal) => refused(s, refusal),
-    }
+    receive(s, number, read)
 }
 
 // The link figure: the count of ones in the syndromes that the session still holds.

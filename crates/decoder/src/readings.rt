@@ -1,9 +1,9 @@
-// Readings to digits: document 01, "Readings and bursts".
+// Frames as they come, bytes or readings, to digits: document 01, "Readings and bursts".
 use super::Reading;
 use card::Refusal;
 ghost use mathlib.Core.Path.{_≡_};
 ghost use Prim.Native.Nat.{_≤_};
-ghost use Rattle.decoder.specs.Readings.{yieldOf, frameYieldOf, digitOf, readFrameOf};
+ghost use Rattle.decoder.specs.Readings.{yieldOf, frameYieldOf, digitOf, readByteOf, readFrameOf};
 
 // What a reading yields.
 pub(crate) enum ReadDigit {
@@ -11,7 +11,7 @@ pub(crate) enum ReadDigit {
     Refused(Refusal),
 }
 
-// What the readings of a frame yield.
+// What a frame yields, as it came.
 pub(crate) enum ReadFrame {
     Frame(u8),
     Refused(Refusal),
@@ -38,6 +38,17 @@ fn digit_of(reading: Reading) -> ReadDigit
     }
 }
 
+// A byte is its frame, unless it has a digit beyond n streams.
+pub(crate) fn read_byte(frame: u8, n: usize) -> ReadFrame
+    ensures { λ r. ⌜ frameYieldOf r ≡ readByteOf frame n ⌝ }
+{
+    if bits::beyond(frame, n) {
+        ReadFrame::Refused(Refusal::DigitBeyondStreams)
+    } else {
+        ReadFrame::Frame(frame)
+    }
+}
+
 // The frame of the first n readings, or the refusal of the first that has one.
 pub(crate) fn read_frame(readings: [Reading; 8], n: usize) -> ReadFrame
     requires { ⌜ n ≤ 8 ⌝ }
@@ -58,5 +69,6 @@ pub(crate) fn read_frame(readings: [Reading; 8], n: usize) -> ReadFrame
         }
         s += 1;
     }
-    ReadFrame::Frame(frame as u8)
+    let byte = frame as u8;
+    ReadFrame::Frame(byte)
 }

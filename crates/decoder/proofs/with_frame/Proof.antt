@@ -21,8 +21,8 @@ history-requires c κs = search needs
 with-syndromes-requires : tie.Need-with-syndromes-requires
 with-syndromes-requires c κs = search needs
 
-add-t20 : tie.Need-add-t20
-add-t20 c = search needs
+add-received : tie.Need-add-received
+add-received c = search needs
 
 returns : tie.Need-returns
 unfolding withFrame syndromesWith historyWith
@@ -40,5 +40,5 @@ with-frame-spec =
     at-most-requires-3
     history-requires
     with-syndromes-requires
-    add-t20
+    add-received
     returns)

@@ -86,8 +86,8 @@ loop-again c =
       sum-more (l .s) (λ s. faultIn (digitOf (readingAt (a .t1) s))) ∙ ap₂ _+_ (l .inv .3) (ap faultIn (yielded c)),
     )
 
-cast-t16 : tie.Need-cast-t16 Inv-loop μ-loop
-cast-t16 c =
+cast-byte : tie.Need-cast-byte Inv-loop μ-loop
+cast-byte c =
     let l = c .before .loop in
     record { fits = omega (arith, l .inv .1, pow-mono {i = l .s} {j = 8} (omega arith)) }
 
@@ -116,5 +116,5 @@ read-frame-spec =
     add-s
     loop-less
     loop-again
-    cast-t16
+    cast-byte
     returns-2)
