@@ -26,6 +26,10 @@ same-or-not a b = go (eqb a b) refl
 pub last-or-below : {i n : ℕ} → i < suc n → (i ≡ n) ⊎ (i < n)
 last-or-below l = eq-or-lt-of-le (omega arith)
 
+-- a digit that is not 1
+pub digit-zero : {x : ℕ} → x ≤ 1 → (x ≡ 1 → ⊥) → x ≡ 0
+digit-zero l n = omega arith
+
 -- which case a test took
 pub picked {ℓ} : {A : Type ℓ} (b : Bool) {x y z : A} → cond b x y ≡ z → ((b ≡ true) × (x ≡ z)) ⊎ ((b ≡ false) × (y ≡ z))
 picked true e = inl (refl, e)

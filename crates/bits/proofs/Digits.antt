@@ -5,7 +5,7 @@ use mathlib.Core.Logic.{⊎-elim}
 use native.Mathlib.Nat.{mod-lt, zero-lt-suc, div-eq-of-lt, lt-of-lt-of-le, zero-div, pow-suc, pow-succ', mul-le-mul-right, mod-eq-of-lt}
 use native.Mathlib.Numerals.{add-one, one-add}
 use native.Mathlib.Omega.{arith}
-use lib.Pow.{pow-pos, pow-mono, shr-shr, high, low, field, mod-mod-pow, mod-pow-add}
+use lib.Pow.{pow-mono, shr-shr, high, low, field, mod-mod-pow, mod-pow-add}
 use lib.Bits.{bitAnd, bitOr, bitXor, and-shr, and-step, or-shr, or-step, xor-shr, xor-add-and, shifted-half, shifted-even}
 use lib.Count.{ones, ones-step}
 use Rattle.bits.specs.Sums.{sumBelow, xorBelow}

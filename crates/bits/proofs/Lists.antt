@@ -3,13 +3,13 @@ use Prim.Native.Nat.{ℕ, zero, suc, _+_, _≤_, _<_}
 use mathlib.Core.Path.{_≡_, refl, sym, ap, ap₂, _∙_}
 use mathlib.Core.Logic.{⊎-elim}
 use mathlib.Core.List.{List, [], _∷_, _++_, append-assoc}
-use native.Mathlib.Nat.{le-antisymm}
+use native.Mathlib.Nat.{le-antisymm, eq-or-lt-of-le}
 use native.Mathlib.Numerals.{add-one}
 use native.Mathlib.Omega.{arith}
-use lib.ListN.{length, getD, take, drop, set, replicate, length-append, length-drop, List·getD-append}
+use lib.ListN.{length, getD, take, drop, set, replicate, length-append, length-drop, List·getD-append, List·getD-eq-default}
 use lib.Seq.{drop-cons, set-at, getD-at, take-suc-set, take-all}
 use Rattle.bits.specs.Sums.{upTo}
-use Rattle.bits.proofs.Cases.{last-or-below}
+use Rattle.bits.proofs.Cases.{le-or-lt, last-or-below}
 
 pub upTo-length : (n : ℕ) (f : ℕ → ℕ) → length (upTo n f) ≡ n
 unfolding upTo
@@ -27,6 +27,21 @@ upTo-at (suc n) f j h =
 pub upTo-more : (n : ℕ) (f : ℕ → ℕ) → upTo (n + 1) f ≡ upTo n f ++ (f n ∷ [])
 unfolding upTo
 upTo-more n f = rw add-one
+
+-- one element more at the end
+pub snoc-last : (xs : List ℕ) (y n : ℕ) → n ≡ length xs → getD (xs ++ (y ∷ [])) n 0 ≡ y
+snoc-last xs y n e = getD-at xs y [] 0 n (sym e)
+
+pub snoc-other : (xs : List ℕ) (y n : ℕ) → (n ≡ length xs → ⊥) → getD (xs ++ (y ∷ [])) n 0 ≡ getD xs n 0
+snoc-other xs y n h =
+    ⊎-elim
+    (λ (l : length xs ≤ n).
+    List·getD-eq-default (xs ++ (y ∷ [])) 0 (omega (arith, length-append xs (y ∷ []), beyond l)) ∙ sym (List·getD-eq-default xs 0 l))
+    (λ (l : n < length xs). List·getD-append xs (y ∷ []) 0 n l)
+    (le-or-lt (length xs) n)
+  where
+    beyond : length xs ≤ n → length xs < n
+    beyond l = ⊎-elim (λ q. absurd (h (sym q))) (λ q. q) (eq-or-lt-of-le l)
 
 pub zeros-at : (n j : ℕ) → _≡_ {A = ℕ} (getD (replicate n 0) j 0) 0
 zeros-at zero j = refl

@@ -7,7 +7,7 @@ use native.Mathlib.Numerals.{add-one}
 use native.Mathlib.Decide.{decLt}
 use native.Mathlib.Omega.{arith}
 use Rattle.bits.specs.Sums.{sumBelow}
-use Rattle.bits.proofs.Cases.{last-or-below}
+use Rattle.bits.proofs.Cases.{last-or-below, digit-zero}
 
 -- ---- congruence
 
@@ -192,12 +192,9 @@ at-most-one zero f d h = zero-le
 at-most-one (suc n) f d h =
     go (decLt 0 (f n)) (at-most-one n f (λ q l. d q (omega arith)) (λ q r l l'. h q r l (omega arith)))
   where
-    nought : (x : ℕ) → x ≤ 1 → (x ≡ 1 → ⊥) → x ≡ 0
-    nought x lx ne = omega arith
-
     go : Dec (0 < f n) → sumBelow n f ≤ 1 → sumBelow n f + f n ≤ 1
     go (yes l) below =
         let last = d n (le-refl (suc n)) in
-        let z = sum-none n f (λ q lq. nought (f q) (d q (omega arith)) (λ e. h q n lq (le-refl (suc n)) e (omega arith))) in
+        let z = sum-none n f (λ q lq. digit-zero (d q (omega arith)) (λ e. h q n lq (le-refl (suc n)) e (omega arith))) in
         omega arith
     go (no ne) below = omega arith

@@ -12,7 +12,7 @@ use lib.Bits.{bitAnd, bitXor, and-le-l, and-lt, xor-lt}
 use lib.Count.{ones, ones-le}
 use Rattle.bits.specs.Sums.{sumBelow, xorBelow}
 use Rattle.bits.specs.Digits.{bit, fromDigits, dot, shiftUp}
-use Rattle.bits.proofs.Sums.{sum-cong, sum-same, sum-add, sum-cut, sum-mod, sum-more, sum-step}
+use Rattle.bits.proofs.Sums.{sum-cong, sum-add, sum-cut, sum-mod, sum-more, sum-step}
 use Rattle.bits.proofs.Digits.{bit-and, bit-xor, bit-high, bit-shift, digits-lt, ones-sum}
 
 -- the ones of both words

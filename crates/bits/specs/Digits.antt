@@ -1,6 +1,6 @@
 -- The digits of a number, counted from 0, the lowest first.
 -- Assumes nothing.
-use Prim.Native.Nat.{ℕ, _+_, _*_, _/_, _%_, _^_}
+use Prim.Native.Nat.{ℕ, _*_, _/_, _%_, _^_}
 use Rattle.bits.specs.Sums.{sumBelow}
 
 -- digit a of x

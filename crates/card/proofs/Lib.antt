@@ -1,5 +1,34 @@
-pub mod Registers
+-- the code
 pub mod Frames
 pub mod Parity
 pub mod Sent
+pub mod Registers
 pub mod Touches
+-- reading
+pub mod Numbers
+pub mod FieldValues
+pub mod ReadParts
+pub mod HeadStages
+pub mod Rest
+pub mod RestGenerators
+pub mod ErrorMasks
+pub mod Judging
+pub mod RestChecks
+pub mod CheckLoops
+pub mod WholeCard
+pub mod RefusedCard
+-- accepted exactly when
+pub mod Stores
+pub mod CardTables
+pub mod Clashes
+pub mod Standing
+pub mod Orthogonality
+pub mod WholeReading
+pub mod Limits
+pub mod LayoutLaws
+pub mod Laid
+pub mod LaidBack
+pub mod ChecksBack
+pub mod CardLength
+pub mod Guaranteed
+pub mod Acceptance

@@ -3,4 +3,10 @@ pub mod Outcome
 pub mod Code
 pub mod Checks
 pub mod Guarantees
+pub mod Fields
+pub mod Reading
+pub mod Layout
+pub mod Promise
 pub mod Registers
+pub mod Parts
+pub mod ErrorMasks

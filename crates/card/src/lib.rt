@@ -1,8 +1,14 @@
 // Link cards: the code and the checks that a card names, and reading one from its bytes.
+mod checks;
 pub mod code;
+mod errors;
+mod fields;
+mod parts;
 
 ghost use mathlib.Core.Path.{_≡_};
 ghost use Rattle.card.specs.Refusals.{numberOf};
+ghost use Rattle.card.specs.Fields.{emptyCard};
+ghost use Rattle.card.specs.Promise.{CardPromise};
 
 // What a card states; what it does not state is zero, so equal cards are equal values.
 pub struct Card {
@@ -70,5 +76,58 @@ pub fn refusal_number(refusal: Refusal) -> u8
         Refusal::TooManyFrames => 15,
         Refusal::TailBegun => 16,
         Refusal::TailSent => 17,
+    }
+}
+
+// A card that is refused.
+fn refused(verdict: Verdict) -> CardRead
+    ensures { λ r. ⌜ r ≡ record { verdict = verdict; card = emptyCard } ⌝ }
+{
+    CardRead {
+        verdict,
+        card: parts::empty_card(),
+    }
+}
+
+// A card read from its bytes, front to back; the first fault stops it.
+pub fn read_card(bytes: &[u8]) -> CardRead
+    ensures { λ r. ⌜ CardPromise (now (bytes .entry)) r ⌝ }
+{
+    let head = parts::read_head(bytes);
+    let head_verdict = head.verdict;
+    if let Verdict::Refused {
+        refusal: _,
+        offset: _,
+    } = head_verdict {
+        return refused(head_verdict);
+    }
+    let head_card = head.card;
+    let code = parts::read_generators(bytes, head.at, head_card);
+    let code_verdict = code.verdict;
+    if let Verdict::Refused {
+        refusal: _,
+        offset: _,
+    } = code_verdict {
+        return refused(code_verdict);
+    }
+    let code_card = code.card;
+    let whole = checks::read_checks(bytes, code.at, code_card);
+    let verdict = whole.verdict;
+    if let Verdict::Refused {
+        refusal: _,
+        offset: _,
+    } = verdict {
+        return refused(verdict);
+    }
+    if whole.at < bytes.len() {
+        return refused(Verdict::Refused {
+            refusal: Refusal::BytesAfterChecks,
+            offset: whole.at,
+        });
+    }
+    let card = whole.card;
+    CardRead {
+        verdict: Verdict::Accepted,
+        card,
     }
 }

@@ -1,0 +1,85 @@
+-- What the loops of `read_checks` keep, and what they leave. r is the whole answer, c the card before its checks.
+use Prim.Native.Nat.{ℕ, _+_, _^_, _≤_, _<_}
+use mathlib.Core.Path.{_≡_, sym, ap, _∙_}
+use mathlib.Core.List.{List, [], _∷_, _++_}
+use mathlib.Core.Logic.{⊎-elim}
+use native.Mathlib.Omega.{arith}
+use lib.ListN.{length, getD, set, length-append}
+use lib.Seq.{getD-set-same, getD-set-other}
+use Rattle.bits.proofs.Cases.{same-or-not}
+use Rattle.bits.proofs.Lists.{snoc-last, snoc-other}
+use Rattle.card.specs.Refusals.{numberOf}
+use Rattle.card.specs.Parts.{PartOutcome, refusedPart}
+use Rattle.card.specs.declared.Card.{Card}
+use Rattle.card.specs.declared.Refusal.{Refusal}
+use Rattle.card.specs.declared.Verdict.{Verdict}
+use Rattle.card.specs.declared.Verdict.the-variants.{Accepted, Refused}
+use Rattle.card.proofs.Judging.{Union}
+use Rattle.card.proofs.RestChecks.{tablesPart, restStreams, restChecks, restMasks}
+
+-- before stream i
+pub record AtStreams (bs : List ℕ) (c : Card) (r : PartOutcome) (verdict : Verdict) (counts checks : List ℕ) (at i : ℕ) : Type 0 where
+  pub stream-most : i ≤ c .k
+  pub inside : at ≤ length bs
+  pub long-counts : length counts ≡ 4
+  pub long-checks : length checks ≡ 512
+  pub unbroken : verdict ≡ Accepted
+  pub same : restStreams bs c i counts checks at ≡ r
+
+-- before check q of stream i, whose earlier checks touch the errors `touched`
+pub record AtChecks (bs : List ℕ) (c : Card) (r : PartOutcome) (i count : ℕ) (counts : List ℕ) (verdict : Verdict) (checks touched : List ℕ) (at q : ℕ) : Type 0 where
+  pub check-most : q ≤ count
+  pub count-most : count ≤ 16
+  pub inside : at ≤ length bs
+  pub long-counts : length counts ≡ 4
+  pub long-checks : length checks ≡ 512
+  pub unbroken : verdict ≡ Accepted
+  pub earlier : List (List ℕ)
+  pub union : Union c i earlier touched
+  pub same : restChecks bs c i count q earlier counts checks at ≡ r
+
+-- the masks of a check that were read, in an array
+pub record Seen (m : ℕ) (masks : List ℕ) (j : ℕ) (seen : List ℕ) : Type 0 where
+  pub many : length seen ≡ j
+  pub within : (n : ℕ) → getD seen n 0 < 2 ^ (m + 1)
+  pub same : (n : ℕ) → getD masks n 0 ≡ getD seen n 0
+
+-- before mask j of check q, whose map stands at place
+pub record AtMasks (bs : List ℕ) (c : Card) (r : PartOutcome) (i count : ℕ) (counts : List ℕ) (q place : ℕ) (touched : List ℕ) (verdict : Verdict) (checks masks : List ℕ) (rest at j : ℕ) : Type 0 where
+  pub mask-most : j ≤ c .p
+  pub count-most : count ≤ 16
+  pub inside : at ≤ length bs
+  pub long-counts : length counts ≡ 4
+  pub long-checks : length checks ≡ 512
+  pub long-masks : length masks ≡ 8
+  pub unbroken : verdict ≡ Accepted
+  pub earlier : List (List ℕ)
+  pub union : Union c i earlier touched
+  pub seen : List ℕ
+  pub seen-are : Seen (c .m) masks j seen
+  pub same : restMasks bs c i count q place earlier counts seen j checks rest at ≡ r
+
+-- one mask more
+pub seen-more : {m : ℕ} {masks : List ℕ} {j : ℕ} {seen : List ℕ} {v : ℕ} → j < length masks → v < 2 ^ (m + 1) → Seen m masks j seen
+    → Seen m (set masks j v) (j + 1) (seen ++ (v ∷ []))
+seen-more {m} {masks} {j} {seen} {v} l h s =
+    record {
+      many = length-append seen (v ∷ []) ∙ omega (arith, s .many);
+      within = λ n. ⊎-elim (λ e. rw (snoc-last seen v n (e ∙ sym (s .many))) h) (λ e. rw (snoc-other seen v n (λ q. e (q ∙ s .many))) (s .within n)) (same-or-not n j);
+      same = λ n.
+          ⊎-elim (λ e. ap (λ x. getD (set masks j v) x 0) e ∙ getD-set-same masks j v 0 l ∙ sym (snoc-last seen v n (e ∙ sym (s .many))))
+          (λ e. getD-set-other masks j n v 0 e ∙ s .same n ∙ sym (snoc-other seen v n (λ q. e (q ∙ s .many)))) (same-or-not n j);
+    }
+
+-- ---- what the loops leave
+abbrev pub leftTables : Card → Verdict → List ℕ → List ℕ → ℕ → PartOutcome
+leftTables c Accepted counts checks at = tablesPart c counts checks at
+leftTables c (Refused x o) counts checks at = refusedPart (numberOf x) o
+
+pub tables-ended : (c : Card) {v v₁ : Verdict} {l l₁ x x₁ : List ℕ} {at at₁ : ℕ} {r : PartOutcome} → v ≡ v₁ → l ≡ l₁ → x ≡ x₁ → at ≡ at₁ → v₁ ≡ Accepted
+    → tablesPart c l₁ x₁ at₁ ≡ r → leftTables c v l x at ≡ r
+tables-ended c e q y z o g = rw (e, q, y, z, o) g
+
+pub tables-broken : (c : Card) {v : Verdict} (l x : List ℕ) (at : ℕ) {f : Refusal} {o : ℕ} {r : PartOutcome} → v ≡ Refused f o → refusedPart (numberOf f) o ≡ r
+    → leftTables c v l x at ≡ r
+tables-broken c l x at e g = rw e g

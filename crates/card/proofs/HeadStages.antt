@@ -1,0 +1,82 @@
+-- The reader's parts put together: a fault as it is handed on, and the head field by field.
+use Prim.Native.Nat.{ℕ, _+_, _-_, _*_, _/_, _%_, _^_, _≤_, _<_}
+use mathlib.Core.Path.{_≡_, sym, ap, _∙_}
+use mathlib.Core.List.{List}
+use native.Mathlib.Nat.{mul-le-mul, one-mul}
+use native.Mathlib.Omega.{arith}
+use lib.ListN.{replicate}
+use lib.Pow.{shl-exact}
+use Rattle.card.specs.Refusals.{numberOf}
+use Rattle.card.specs.Outcome.{outcomeOf}
+use Rattle.card.specs.Outcome.Outcome.{accepted}
+use Rattle.card.specs.Fields.{emptyCard, storeRows}
+use Rattle.card.specs.Reading.{Field, byteField, kField, nField, readHead}
+use Rattle.card.specs.Reading.Field.{value, bad}
+use Rattle.card.specs.Parts.{verdictOf, partOf, refusedPart, headPart}
+use Rattle.card.specs.declared.Refusal.{Refusal}
+use Rattle.card.specs.declared.Verdict.{Verdict}
+use Rattle.card.specs.declared.fields.FieldRead.{FieldRead}
+use Rattle.card.specs.declared.fields.FieldRead.the-variants.{Fault}
+use Rattle.card.specs.declared.parts.Part.{Part}
+
+-- a fault handed on
+pub refused-by : {r : Part} {v : Verdict} {f : FieldRead} {x : Refusal} {o : ℕ} → r ≡ record { verdict = v; at = 0; card = emptyCard }
+    → v ≡ verdictOf f → f ≡ Fault x o → partOf r ≡ refusedPart (numberOf x) o
+refused-by {v = v} e q w =
+    ap partOf e ∙ ap (λ (u : Verdict). record { outcome = outcomeOf u; at = 0; card = emptyCard }) (q ∙ ap verdictOf w)
+
+-- ---- the head, field by field
+module _ (bs : List ℕ) where
+  pub head-1 : {n o : ℕ} → byteField bs 0 0 3 5 ≡ bad n o → refusedPart n o ≡ headPart (readHead bs)
+  unfolding readHead
+  head-1 e = rw e
+
+  module _ {map : ℕ} (e₁ : byteField bs 0 0 3 5 ≡ value map) where
+    pub head-2 : {n o : ℕ} → byteField bs 1 0 255 1 ≡ bad n o → refusedPart n o ≡ headPart (readHead bs)
+    unfolding readHead
+    head-2 e = rw (e₁, e)
+
+    module _ {number : ℕ} (e₂ : byteField bs 1 0 255 1 ≡ value number) where
+      pub head-3 : {n o : ℕ} → kField bs (map % 2) ≡ bad n o → refusedPart n o ≡ headPart (readHead bs)
+      unfolding readHead
+      head-3 e = rw (e₁, e₂, e)
+
+      module _ {k : ℕ} (e₃ : kField bs (map % 2) ≡ value k) where
+        pub head-4 : {n o : ℕ} → nField bs (2 + map % 2) (map / 2) k ≡ bad n o → refusedPart n o ≡ headPart (readHead bs)
+        unfolding readHead
+        head-4 e = rw (e₁, e₂, e₃, e)
+
+        module _ {n : ℕ} (e₄ : nField bs (2 + map % 2) (map / 2) k ≡ value n) where
+          pub head-5 : {n o : ℕ} → byteField bs (2 + map % 2 + map / 2) 0 31 4 ≡ bad n o → refusedPart n o ≡ headPart (readHead bs)
+          unfolding readHead
+          head-5 e = rw (e₁, e₂, e₃, e₄, e)
+
+          pub head-6 : {m : ℕ} → byteField bs (2 + map % 2 + map / 2) 0 31 4 ≡ value m →
+              record {
+                outcome = accepted;
+                at = 2 + map % 2 + map / 2 + 1;
+                card = record {
+                  number = number;
+                  k = k;
+                  p = n - k;
+                  m = m;
+                  generators = replicate 32 0;
+                  counts = replicate 4 0;
+                  checks = replicate 512 0;
+                };
+              } ≡ headPart (readHead bs)
+          unfolding readHead storeRows
+          head-6 e = rw (e₁, e₂, e₃, e₄, e)
+
+-- ---- ranges
+-- the bits of a generator map
+pub few-bits : (k p : ℕ) → k ≤ 4 → p ≤ 7 → k * p < 32
+few-bits k p h l = let q : k * p ≤ 4 * 7 = mul-le-mul h l in omega arith
+
+-- one bit more than the largest map of p streams
+pub top-map : (p : ℕ) → p ≤ 7 → 1 * 2 ^ p % 4294967296 ≡ 2 ^ p
+top-map p h = shl-exact {a = 1} 1 p 32 (omega arith) (omega arith) ∙ one-mul (2 ^ p)
+
+-- the largest map of p streams, as the program writes it
+pub map-limit : (bs : List ℕ) (at p : ℕ) → p ≤ 7 → {f : Field} → byteField bs at 0 (1 * 2 ^ p % 4294967296 - 1) 5 ≡ f → byteField bs at 0 (2 ^ p - 1) 5 ≡ f
+map-limit bs at p h e = ap (λ n. byteField bs at 0 (n - 1) 5) (sym (top-map p h)) ∙ e

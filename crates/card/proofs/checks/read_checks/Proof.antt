@@ -1,0 +1,387 @@
+-- The rest of the checks from where the loops stand gives the whole answer (`RestChecks`, `CheckLoops`).
+use Prim.Native.Nat.{_-_}
+use mathlib.Core.Path.{_≡_, refl, sym, ap, _∙_}
+use mathlib.Core.List.{[], _∷_, _++_}
+use mathlib.Core.Logic.{⊎-elim}
+use native.Mathlib.Omega.{arith}
+use lib.ListN.{length-set}
+use lib.Pow.{pow-pos}
+use denote.Ref.{now}
+use Rattle.bits.proofs.Lists.{zeros-at}
+use Rattle.card.specs.Outcome.{outcomeOf}
+use Rattle.card.specs.Fields.{emptyCard}
+use Rattle.card.specs.Reading.{readStreams}
+use Rattle.card.specs.Parts.{verdictOf, partOf, checksPart}
+use Rattle.card.specs.ErrorMasks.{judgementNumber}
+use Rattle.card.specs.declared.Verdict.{Verdict}
+use Rattle.card.proofs.FieldValues.{has-value, has-fault, byte-is, standing-inside, standing-within}
+use Rattle.card.proofs.Numbers.{number-least}
+use Rattle.card.proofs.HeadStages.{top-map, map-limit}
+use Rattle.card.proofs.Judging.{union-none, judged-same, judged-union}
+use Rattle.card.proofs.RestChecks.{streams-start, streams-end, streams-fault, streams-turn, checks-end, checks-fault, checks-turn, check-fault, check-turn, check-stands, check-fails}
+use Rattle.card.proofs.CheckLoops.{AtStreams, AtChecks, AtMasks, seen-more, leftTables, tables-ended, tables-broken}
+use borrow.Author.Needs.{needs}
+use Rattle.card.proofs.checks.read_checks.Statement.{statement}
+use Rattle.card.proofs.checks.read_checks.Tie as tie
+
+abbrev Inv-loop2 : tie.InvT-loop2
+Inv-loop2 bytes start card k p m generators verdict₀ counts checks₀ at₀ i count touched q place map rest₀ masks₀ j₀ q-end verdict checks at rest masks j =
+    AtMasks bytes card (checksPart card (readStreams bytes card (card .k) 0 start)) i q-end counts q place touched verdict checks masks rest at j
+
+abbrev μ-loop2 : tie.MeasureT-loop2
+μ-loop2 bytes start card k p m generators verdict₀ counts checks₀ at₀ i count touched q place map rest₀ masks₀ j₀ q-end verdict checks at rest masks j = card .p - j
+
+abbrev Inv-loop : tie.InvT-loop
+Inv-loop bytes start card k p m generators verdict₀ counts checks₀ at₀ i count touched₀ q₀ q-end verdict checks at touched q =
+    AtChecks bytes card (checksPart card (readStreams bytes card (card .k) 0 start)) i q-end counts verdict checks touched at q
+
+abbrev μ-loop : tie.MeasureT-loop
+μ-loop bytes start card k p m generators verdict₀ counts checks₀ at₀ i count touched₀ q₀ q-end verdict checks at touched q = q-end - q
+
+abbrev Inv-card : tie.InvT-card
+Inv-card bytes start card k p m generators verdict₀ counts₀ checks₀ at₀ i₀ verdict counts checks at i =
+    AtStreams bytes card (checksPart card (readStreams bytes card (card .k) 0 start)) verdict counts checks at i
+
+abbrev μ-card : tie.MeasureT-card
+μ-card bytes start card k p m generators verdict₀ counts₀ checks₀ at₀ i₀ verdict counts checks at i = card .k - i
+
+card-holds : tie.Need-card-holds Inv-loop2 μ-loop2 Inv-loop μ-loop Inv-card μ-card
+card-holds c =
+    record {
+      stream-most = omega arith;
+      inside = omega arith;
+      long-counts = refl;
+      long-checks = refl;
+      unbroken = refl;
+      same = streams-start _ _ _;
+    }
+
+byte-field-requires :
+    tie.Need-byte-field-requires Inv-loop2 μ-loop2 Inv-loop μ-loop Inv-card μ-card
+byte-field-requires c κs = search needs
+
+enum-known-count-read :
+    tie.Need-enum-known-count-read Inv-loop2 μ-loop2 Inv-loop μ-loop Inv-card μ-card
+enum-known-count-read c = search needs
+
+enum-told : tie.Need-enum-told Inv-loop2 μ-loop2 Inv-loop μ-loop Inv-card μ-card
+enum-told c = search needs
+
+verdict-of-requires :
+    tie.Need-verdict-of-requires Inv-loop2 μ-loop2 Inv-loop μ-loop Inv-card μ-card
+verdict-of-requires c κs = search needs
+
+cast-counts : tie.Need-cast-counts Inv-loop2 μ-loop2 Inv-loop μ-loop Inv-card μ-card
+cast-counts c = omega arith
+
+mul-counts : tie.Need-mul-counts Inv-loop2 μ-loop2 Inv-loop μ-loop Inv-card μ-card
+mul-counts c = omega arith
+
+array-write-counts : tie.Need-array-write-counts Inv-loop2 μ-loop2 Inv-loop μ-loop Inv-card μ-card
+array-write-counts c = omega arith
+
+add-at : tie.Need-add-at Inv-loop2 μ-loop2 Inv-loop μ-loop Inv-card μ-card
+add-at c = let h = byte-is _ _ _ _ _ _ (has-value (c .before .before .before .byte-field .ensures) (c .before .count-read .given .1)) .inside in omega arith
+
+cast-q-end : tie.Need-cast-q-end Inv-loop2 μ-loop2 Inv-loop μ-loop Inv-card μ-card
+cast-q-end c = omega arith
+
+loop-holds : tie.Need-loop-holds Inv-loop2 μ-loop2 Inv-loop μ-loop Inv-card μ-card
+loop-holds c =
+    let v = c .before .before .before .before .before .card .inv in
+    let b = byte-is _ _ _ _ _ _ (has-value (c .before .before .before .byte-field .ensures) (c .before .count-read .given .1)) in
+    record {
+      check-most = omega arith;
+      count-most = b .most;
+      inside = (let h = b .inside in omega arith);
+      long-counts = simp length-set (v .long-counts);
+      long-checks = v .long-checks;
+      unbroken = v .unbroken;
+      earlier = [];
+      union = union-none _ _;
+      same = sym (streams-turn _ _ _ _ _ _ (c .before .before .before .before .card-test .taken) (has-value (c .before .before .before .byte-field .ensures) (c .before .count-read .given .1))) ∙ v .same;
+    }
+
+cast-byte-field : tie.Need-cast-byte-field Inv-loop2 μ-loop2 Inv-loop μ-loop Inv-card μ-card
+cast-byte-field c = omega arith
+
+shl-byte-field : tie.Need-shl-byte-field Inv-loop2 μ-loop2 Inv-loop μ-loop Inv-card μ-card
+shl-byte-field c = omega arith
+
+sub-byte-field : tie.Need-sub-byte-field Inv-loop2 μ-loop2 Inv-loop μ-loop Inv-card μ-card
+sub-byte-field c = let q = top-map (c .before .before .before .before .before .before .before .before .before .before .args .card .p) (omega arith) in let z = pow-pos (c .before .before .before .before .before .before .before .before .before .before .args .card .p) in omega arith
+
+byte-field-requires-2 :
+    tie.Need-byte-field-requires-2 Inv-loop2 μ-loop2 Inv-loop μ-loop Inv-card μ-card
+byte-field-requires-2 c κs = search needs
+
+enum-known-map-read :
+    tie.Need-enum-known-map-read Inv-loop2 μ-loop2 Inv-loop μ-loop Inv-card μ-card
+enum-known-map-read c = search needs
+
+enum-told-2 : tie.Need-enum-told-2 Inv-loop2 μ-loop2 Inv-loop μ-loop Inv-card μ-card
+enum-told-2 c = search needs
+
+verdict-of-requires-2 :
+    tie.Need-verdict-of-requires-2 Inv-loop2 μ-loop2 Inv-loop μ-loop Inv-card μ-card
+verdict-of-requires-2 c κs = search needs
+
+add-at-2 : tie.Need-add-at-2 Inv-loop2 μ-loop2 Inv-loop μ-loop Inv-card μ-card
+add-at-2 c = let h = byte-is _ _ _ _ _ _ (has-value (c .before .before .before .byte-field2 .ensures) (c .before .map-read .given .1)) .inside in omega arith
+
+loop2-holds : tie.Need-loop2-holds Inv-loop2 μ-loop2 Inv-loop μ-loop Inv-card μ-card
+loop2-holds c =
+    let v = c .before .before .before .before .before .loop .inv in
+    record {
+      mask-most = omega arith;
+      count-most = v .count-most;
+      inside = (let h = byte-is _ _ _ _ _ _ (has-value (c .before .before .before .byte-field2 .ensures) (c .before .map-read .given .1)) .inside in omega arith);
+      long-counts = v .long-counts;
+      long-checks = v .long-checks;
+      long-masks = refl;
+      unbroken = v .unbroken;
+      earlier = v .earlier;
+      union = v .union;
+      seen = [];
+      seen-are = record { many = refl; within = λ n. pow-pos _; same = λ n. zeros-at 8 n };
+      same = sym (checks-turn _ _ _ _ _ _ _ _ _ (c .before .before .before .before .loop-test .taken) (map-limit _ _ _ (omega arith) (has-value (c .before .before .before .byte-field2 .ensures) (c .before .map-read .given .1)))) ∙ v .same;
+    }
+
+standing-mask-requires :
+    tie.Need-standing-mask-requires Inv-loop2 μ-loop2 Inv-loop μ-loop Inv-card μ-card
+standing-mask-requires c κs = search needs
+
+enum-known-mask-read :
+    tie.Need-enum-known-mask-read Inv-loop2 μ-loop2 Inv-loop μ-loop Inv-card μ-card
+enum-known-mask-read c = search needs
+
+enum-told-3 : tie.Need-enum-told-3 Inv-loop2 μ-loop2 Inv-loop μ-loop Inv-card μ-card
+enum-told-3 c = search needs
+
+verdict-of-requires-3 :
+    tie.Need-verdict-of-requires-3 Inv-loop2 μ-loop2 Inv-loop μ-loop Inv-card μ-card
+verdict-of-requires-3 c κs = search needs
+
+mul-masks : tie.Need-mul-masks Inv-loop2 μ-loop2 Inv-loop μ-loop Inv-card μ-card
+mul-masks c = omega arith
+
+array-write-masks : tie.Need-array-write-masks Inv-loop2 μ-loop2 Inv-loop μ-loop Inv-card μ-card
+array-write-masks c = omega arith
+
+mul-checks : tie.Need-mul-checks Inv-loop2 μ-loop2 Inv-loop μ-loop Inv-card μ-card
+mul-checks c = omega arith
+
+mul-checks-2 : tie.Need-mul-checks-2 Inv-loop2 μ-loop2 Inv-loop μ-loop Inv-card μ-card
+mul-checks-2 c = omega arith
+
+add-checks : tie.Need-add-checks Inv-loop2 μ-loop2 Inv-loop μ-loop Inv-card μ-card
+add-checks c = omega arith
+
+add-checks-2 : tie.Need-add-checks-2 Inv-loop2 μ-loop2 Inv-loop μ-loop Inv-card μ-card
+add-checks-2 c = omega arith
+
+mul-checks-3 : tie.Need-mul-checks-3 Inv-loop2 μ-loop2 Inv-loop μ-loop Inv-card μ-card
+mul-checks-3 c = omega arith
+
+array-write-checks : tie.Need-array-write-checks Inv-loop2 μ-loop2 Inv-loop μ-loop Inv-card μ-card
+array-write-checks c = omega arith
+
+cast-at : tie.Need-cast-at Inv-loop2 μ-loop2 Inv-loop μ-loop Inv-card μ-card
+cast-at c = omega arith
+
+mul-at : tie.Need-mul-at Inv-loop2 μ-loop2 Inv-loop μ-loop Inv-card μ-card
+mul-at c = omega arith
+
+add-at-3 : tie.Need-add-at-3 Inv-loop2 μ-loop2 Inv-loop μ-loop Inv-card μ-card
+add-at-3 c = let h = standing-inside _ _ _ _ _ (c .before .before .before .before .before .loop2 .inv .inside) (omega arith) (has-value (c .before .before .before .standing-mask .ensures) (c .before .mask-read .given .1)) in omega arith
+
+add-j : tie.Need-add-j Inv-loop2 μ-loop2 Inv-loop μ-loop Inv-card μ-card
+add-j c = omega arith
+
+loop2-less : tie.Need-loop2-less Inv-loop2 μ-loop2 Inv-loop μ-loop Inv-card μ-card
+loop2-less c = omega arith
+
+loop2-again : tie.Need-loop2-again Inv-loop2 μ-loop2 Inv-loop μ-loop Inv-card μ-card
+loop2-again c =
+    let v = c .before .before .before .before .before .loop2 .inv in
+    record {
+      mask-most = omega arith;
+      count-most = v .count-most;
+      inside = standing-inside _ _ _ _ _ (v .inside) (omega arith) (has-value (c .before .before .before .standing-mask .ensures) (c .before .mask-read .given .1));
+      long-counts = v .long-counts;
+      long-checks = simp length-set (v .long-checks);
+      long-masks = simp length-set (v .long-masks);
+      unbroken = v .unbroken;
+      earlier = v .earlier;
+      union = v .union;
+      seen = v .seen ++ (c .before .mask-read .given .0 .0 ∷ []);
+      seen-are = seen-more (omega arith) (standing-within _ _ _ _ _ (has-value (c .before .before .before .standing-mask .ensures) (c .before .mask-read .given .1))) (v .seen-are);
+      same = sym (check-turn _ _ _ _ _ _ _ _ _ _ _ _ _ (c .before .before .before .before .loop2-test .taken) (has-value (c .before .before .before .standing-mask .ensures) (c .before .mask-read .given .1))) ∙ v .same;
+    }
+
+errors-by-requires : tie.Need-errors-by-requires Inv-loop2 μ-loop2 Inv-loop μ-loop Inv-card μ-card
+errors-by-requires c κs = search needs
+
+judge-requires : tie.Need-judge-requires Inv-loop2 μ-loop2 Inv-loop μ-loop Inv-card μ-card
+judge-requires c κs = search needs
+
+enum-known-judgement :
+    tie.Need-enum-known-judgement Inv-loop2 μ-loop2 Inv-loop μ-loop Inv-card μ-card
+enum-known-judgement c = search needs
+
+enum-told-4 : tie.Need-enum-told-4 Inv-loop2 μ-loop2 Inv-loop μ-loop Inv-card μ-card
+enum-told-4 c = search needs
+
+add-q : tie.Need-add-q Inv-loop2 μ-loop2 Inv-loop μ-loop Inv-card μ-card
+add-q c = omega arith
+
+loop-less : tie.Need-loop-less Inv-loop2 μ-loop2 Inv-loop μ-loop Inv-card μ-card
+loop-less c = omega arith
+
+loop-again : tie.Need-loop-again Inv-loop2 μ-loop2 Inv-loop μ-loop Inv-card μ-card
+loop-again c =
+    let v = c .before .before .before .before .before .before .before .before .loop2 .inv in
+    let z : judgementNumber (c .before .before .before .judge .result .judgement) ≡ 0 = ap judgementNumber (c .before .enum-told4 .given .1) in
+    record {
+      check-most = omega arith;
+      count-most = v .count-most;
+      inside = v .inside;
+      long-counts = v .long-counts;
+      long-checks = v .long-checks;
+      unbroken = v .unbroken;
+      earlier = v .seen ∷ v .earlier;
+      union = judged-union (c .before .before .before .before .before .before .before .before .before .before .before .before .before .before .before .before .before .before .before .before .before .before .before .args .card) (omega (arith, c .before .before .before .before .before .before .before .before .before .before .before .before .before .before .before .before .before .before .before .before .before .before .before .pre)) (omega (arith, c .before .before .before .before .before .before .before .before .before .before .before .before .before .before .before .before .before .before .before .before .before .before .before .pre)) (omega (arith, c .before .before .before .before .before .before .before .before .before .before .before .before .before .before .before .before .before .before .before .before .before .before .before .pre)) (v .seen) _ (let h = v .seen-are .many in omega arith) (v .seen-are .within) (v .seen-are .same) _ (omega arith) (v .earlier) _ (v .union) (c .before .before .before .before .errors-by .ensures) (c .before .before .before .judge .ensures) z;
+      same = sym (check-stands _ _ _ _ _ _ _ _ _ _ _ _ _ (c .before .before .before .before .before .before .before .loop2-test .left) (judged-same (c .before .before .before .before .before .before .before .before .before .before .before .before .before .before .before .before .before .before .before .before .before .before .before .args .card) (omega (arith, c .before .before .before .before .before .before .before .before .before .before .before .before .before .before .before .before .before .before .before .before .before .before .before .pre)) (omega (arith, c .before .before .before .before .before .before .before .before .before .before .before .before .before .before .before .before .before .before .before .before .before .before .before .pre)) (omega (arith, c .before .before .before .before .before .before .before .before .before .before .before .before .before .before .before .before .before .before .before .before .before .before .before .pre)) (v .seen) _ (let h = v .seen-are .many in omega arith) (v .seen-are .within) (v .seen-are .same) _ (omega arith) (v .earlier) _ (v .union) (c .before .before .before .before .errors-by .ensures) (c .before .before .before .judge .ensures) ∙ z)) ∙ v .same;
+    }
+
+add-i : tie.Need-add-i Inv-loop2 μ-loop2 Inv-loop μ-loop Inv-card μ-card
+add-i c = omega arith
+
+card-less : tie.Need-card-less Inv-loop2 μ-loop2 Inv-loop μ-loop Inv-card μ-card
+card-less c = omega arith
+
+card-again : tie.Need-card-again Inv-loop2 μ-loop2 Inv-loop μ-loop Inv-card μ-card
+card-again c =
+    let v = c .before .loop .inv in
+    record {
+      stream-most = omega arith;
+      inside = v .inside;
+      long-counts = v .long-counts;
+      long-checks = v .long-checks;
+      unbroken = v .unbroken;
+      same = sym (checks-end _ _ _ _ _ _ _ _ _ (c .loop-test .left)) ∙ v .same;
+    }
+
+-- where the ways out of the streams meet
+settled : (c : tie.Left-card Inv-loop2 μ-loop2 Inv-loop μ-loop Inv-card μ-card) →
+    let a = c .before .before .before .before .args in
+    leftTables (a .card) (c .card-test .verdict) (c .card-test .counts) (c .card-test .checks) (c .card-test .at)
+    ≡ checksPart (a .card) (readStreams (now (a .bytes)) (a .card) (a .card .k) 0 (a .start))
+settled c =
+    let v = c .before .card .inv in
+    ⊎-elim
+    (λ w. tables-ended _ (w .1) (w .2) (w .3) (w .4) (v .unbroken) (sym (streams-end _ _ _ _ _ _ (w .0 .left)) ∙ v .same))
+    (⊎-elim
+    (λ w.
+    tables-broken _ _ _ _ (w .5 ∙ (w .4 .ensures ∙ ap verdictOf (w .3 .given .1)))
+    (sym (streams-fault _ _ _ _ _ _ (w .0 .taken) (has-fault (w .1 .ensures) (w .3 .given .1))) ∙ v .same))
+    (⊎-elim
+    (λ w.
+    tables-broken _ _ _ _ (w .11 ∙ (w .10 .ensures ∙ ap verdictOf (w .9 .given .1)))
+    (sym (checks-fault _ _ _ _ _ _ _ _ _ (w .6 .taken) (map-limit _ _ _ (omega arith) (has-fault (w .7 .ensures) (w .9 .given .1)))) ∙ w .5 .inv .same))
+    (⊎-elim
+    (λ w.
+    tables-broken _ _ _ _ (w .17 ∙ (w .16 .ensures ∙ ap verdictOf (w .15 .given .1)))
+    (sym (check-fault _ _ _ _ _ _ _ _ _ _ _ _ _ (w .12 .taken) (has-fault (w .13 .ensures) (w .15 .given .1))) ∙ w .11 .inv .same))
+    (λ w.
+    let t = w .11 .inv in
+    let e = judged-same (c .before .before .before .before .args .card) (omega (arith, c .before .before .before .before .pre)) (omega (arith, c .before .before .before .before .pre)) (omega (arith, c .before .before .before .before .pre)) (t .seen) _ (let h = t .seen-are .many in let l = w .12 .left in let l₁ = t .mask-most in omega arith) (t .seen-are .within) (t .seen-are .same) _ (w .0 .taken) (t .earlier) _ (t .union) (w .15 .ensures) (w .16 .ensures)
+    ∙ ap judgementNumber (w .18 .given .1) in
+    tables-broken _ _ _ _ (w .20)
+    (sym (check-fails _ _ _ _ _ _ _ _ _ _ _ _ _ (w .12 .left) e (λ z. let l = number-least (w .18 .given .0 .0) in omega arith)) ∙ t .same)))))
+    (c .card-test .came)
+
+enum-told-5 : tie.Need-enum-told-5 Inv-loop2 μ-loop2 Inv-loop μ-loop Inv-card μ-card
+enum-told-5 c = search needs
+
+refused-part-requires :
+    tie.Need-refused-part-requires Inv-loop2 μ-loop2 Inv-loop μ-loop Inv-card μ-card
+refused-part-requires c κs = search needs
+
+returns : tie.Need-returns Inv-loop2 μ-loop2 Inv-loop μ-loop Inv-card μ-card
+returns c =
+    let e = c .before .enum-told5 .given .1 in
+    ap partOf (c .refused-part .ensures)
+    ∙ ap (λ (v : Verdict). record { outcome = outcomeOf v; at = 0; card = emptyCard }) e
+    ∙ sym (tables-broken _ _ _ _ e refl)
+    ∙ settled (c .before .before .before)
+
+enum-told-6 : tie.Need-enum-told-6 Inv-loop2 μ-loop2 Inv-loop μ-loop Inv-card μ-card
+enum-told-6 c = search needs
+
+returns-2 : tie.Need-returns-2 Inv-loop2 μ-loop2 Inv-loop μ-loop Inv-card μ-card
+returns-2 c = sym (tables-ended _ refl refl refl refl (c .enum-told6 .given .1) refl) ∙ settled (c .before .before)
+
+pub read-checks-spec : {M : Type 1} → statement M
+read-checks-spec =
+    tie.close
+    (tie.spec
+    Inv-loop2
+    μ-loop2
+    Inv-loop
+    μ-loop
+    Inv-card
+    μ-card
+    card-holds
+    byte-field-requires
+    enum-known-count-read
+    enum-told
+    verdict-of-requires
+    cast-counts
+    mul-counts
+    array-write-counts
+    add-at
+    cast-q-end
+    loop-holds
+    cast-byte-field
+    shl-byte-field
+    sub-byte-field
+    byte-field-requires-2
+    enum-known-map-read
+    enum-told-2
+    verdict-of-requires-2
+    add-at-2
+    loop2-holds
+    standing-mask-requires
+    enum-known-mask-read
+    enum-told-3
+    verdict-of-requires-3
+    mul-masks
+    array-write-masks
+    mul-checks
+    mul-checks-2
+    add-checks
+    add-checks-2
+    mul-checks-3
+    array-write-checks
+    cast-at
+    mul-at
+    add-at-3
+    add-j
+    loop2-less
+    loop2-again
+    errors-by-requires
+    judge-requires
+    enum-known-judgement
+    enum-told-4
+    add-q
+    loop-less
+    loop-again
+    add-i
+    card-less
+    card-again
+    enum-told-5
+    refused-part-requires
+    returns
+    enum-told-6
+    returns-2)
