@@ -10,3 +10,4 @@ pub mod Outcomes
 pub mod Answers
 pub mod Follow
 pub mod ByRule
+pub mod Opening

@@ -5,3 +5,5 @@ pub mod Answers
 pub mod Registers
 pub mod Receive
 pub mod Calls
+pub mod Claims
+pub mod Opening

@@ -26,11 +26,15 @@ pOf c = min (c .p) 8
 abbrev pub streamsOf : ℕ → ℕ → ℕ
 streamsOf k p = min (min k 4 + min p 8) 8
 
--- ---- a frame that is taken
+-- a session that holds no digit, with so many frames counted as received
+abbrev pub freshOf : Card → ℕ → Session
+freshOf c received = record { card = c; history = replicate 4 0; syndromes = replicate 8 0; received = received }
 
 -- a session before its first frame
 unfoldable pub openOf : Card → Session
-openOf c = record { card = c; history = replicate 4 0; syndromes = replicate 8 0; received = 0 }
+openOf c = freshOf c 0
+
+-- ---- a frame that is taken
 
 -- the history registers with the frame f
 unfoldable pub historyWith : Session → ℕ → List ℕ

@@ -4,13 +4,15 @@ mod registers;
 
 use card::Card;
 use card::Refusal;
+use card::Verdict;
 use readings::ReadFrame;
 ghost use mathlib.Core.Path.{_≡_};
 ghost use Prim.Native.Nat.{_<_};
 ghost use Rattle.card.specs.Refusals.{numberOf};
 ghost use Rattle.decoder.specs.Answers.{receivedOf};
+ghost use Rattle.decoder.specs.Opening.{OpenPromise};
 ghost use Rattle.decoder.specs.Readings.{frameYieldOf};
-ghost use Rattle.decoder.specs.Receive.{streamsOf, refusedOf, withFrame, handingOf, takenOf, receiveOf, receiveByteOf, receiveReadingsOf, linkFigureOf};
+ghost use Rattle.decoder.specs.Receive.{freshOf, streamsOf, refusedOf, withFrame, handingOf, takenOf, receiveOf, receiveByteOf, receiveReadingsOf, linkFigureOf};
 
 // What a session holds between two calls.
 pub struct Session {
@@ -39,8 +41,48 @@ pub struct Received {
     pub session: Session,
 }
 
+// What opening comes to: the verdict of card reading, and the session.
+pub struct Opened {
+    pub verdict: Verdict,
+    pub session: Session,
+}
+
 // A session receives this many frames.
 const MOST_FRAMES: u32 = 1048576;
+
+// A session that holds no digit, with so many frames counted as received.
+fn fresh(card: Card, received: u32) -> Session
+    ensures { λ r. ⌜ r ≡ freshOf card received ⌝ }
+{
+    Session {
+        card,
+        history: [0u32; 4],
+        syndromes: [0u32; 8],
+        received,
+    }
+}
+
+// Reads the card. A refused opening hands out a session with the empty card and no room left, so that it refuses every call.
+pub fn open(card: &[u8]) -> Opened
+    ensures { λ r. ⌜ OpenPromise (now (card .entry)) r ⌝ }
+{
+    let read = card::read_card(card);
+    let verdict = read.verdict;
+    let card = read.card;
+    match verdict {
+        Verdict::Accepted => {
+            let session = fresh(card, 0);
+            Opened { verdict, session }
+        }
+        Verdict::Refused {
+            refusal: _,
+            offset: _,
+        } => {
+            let session = fresh(card, MOST_FRAMES);
+            Opened { verdict, session }
+        }
+    }
+}
 
 // n, held to the digits of a byte.
 fn stream_count(k: usize, p: usize) -> usize
