@@ -1,6 +1,6 @@
 -- An opened session: with an accepted card any list of calls follows the rule, with a refused one every call is refused.
 use Prim.Native.Nat.{ℕ}
-use mathlib.Core.Path.{_≡_, refl, sym, ap, _∙_, subst}
+use mathlib.Core.Path.{_≡_, sym, ap, _∙_, subst}
 use mathlib.Core.List.{List}
 use native.Mathlib.Nat.{le-refl}
 use Rattle.card.specs.Guarantees.{Guarantees}
