@@ -3,3 +3,12 @@ pub mod Majority
 pub mod Linear
 pub mod Theorem
 pub mod Syndromes
+pub mod Feedback
+pub mod Step
+pub mod Bounds
+pub mod Yields
+pub mod Outcomes
+pub mod Answers
+pub mod Follow
+pub mod ByRule
+pub mod Opening
