@@ -3,7 +3,6 @@ pub mod Majority
 pub mod Linear
 pub mod Theorem
 pub mod Syndromes
-pub mod Feedback
 pub mod Step
 pub mod Bounds
 pub mod Yields
