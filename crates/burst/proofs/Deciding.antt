@@ -25,7 +25,7 @@ use Rattle.card.specs.Guarantees.{Guarantees}
 use Rattle.card.specs.declared.Card.{Card}
 use Rattle.decoder.specs.Rule.{cleared, checkAt, votes, decide, decideFrame, decided, corrected}
 use Rattle.decoder.proofs.Streams.{decided-length, decided-at}
-use Rattle.decoder.proofs.Syndromes.{cleared-fed}
+use Rattle.decoder.proofs.Feedback.{cleared-fed}
 use Rattle.burst.specs.Registers.{generatorSums, checkBy, votesBy, majorityBy, decideBy, takenOut, Corrected}
 use Rattle.burst.specs.Held.{syndromeHeld, Before, With}
 use Rattle.burst.proofs.Coming.{generator-beyond}

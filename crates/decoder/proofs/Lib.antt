@@ -2,4 +2,4 @@ pub mod Streams
 pub mod Majority
 pub mod Linear
 pub mod Theorem
-pub mod Syndromes
+pub mod Feedback
