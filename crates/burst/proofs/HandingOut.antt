@@ -14,8 +14,8 @@ use Rattle.bits.proofs.Lists.{part-at, part-length, part-step}
 use Rattle.card.specs.Guarantees.{Guarantees}
 use Rattle.card.specs.declared.Card.{Card}
 use Rattle.decoder.specs.Rule.{decided, corrected, decoded}
-use Rattle.burst.specs.Registers.{generatorSums, syndromesNext, written, TakenIn, takenOut, Corrected}
-use Rattle.burst.specs.Held.{Before, With, cardOf, Carried, HandedOut}
+use Rattle.burst.specs.Registers.{generatorSums, written, TakenIn, takenOut, Corrected}
+use Rattle.burst.specs.Held.{With, cardOf, Carried, HandedOut}
 use Rattle.burst.proofs.Voting.{decide-lt}
 use Rattle.burst.proofs.Following.{taken-in}
 use Rattle.burst.proofs.Waiting.{start}

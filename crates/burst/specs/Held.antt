@@ -4,15 +4,15 @@
 use Prim.Native.Nat.{ℕ, suc, _+_, _-_, _*_, _%_, _<_}
 use mathlib.Core.Path.{_≡_}
 use mathlib.Core.Bool.{cond}
-use mathlib.Core.List.{List}
-use lib.ListN.{length, getD}
+use mathlib.Core.List.{List, _++_}
+use lib.ListN.{length, getD, drop}
 use lib.Dec.{leb, ltb}
 use Rattle.bits.specs.Sums.{sumBelow, back}
 use Rattle.bits.specs.Digits.{bit}
 use Rattle.card.specs.Code.{generator, digit}
 use Rattle.card.specs.Guarantees.{Guarantees}
 use Rattle.card.specs.declared.Card.{Card}
-use Rattle.decoder.specs.Rule.{cleared, decided, corrected}
+use Rattle.decoder.specs.Rule.{cleared, decided, corrected, decoded}
 use Rattle.burst.specs.Registers.{generatorSums, written}
 
 -- the part of parity digit j at t + a that the information digits of times before t give
@@ -60,3 +60,10 @@ HandedOut sums counts checks k p m frames t coming₀ syndromes₀ output₀ com
     ≡ written (t - m)
     (corrected (cardOf number k p m generators counts checks) frames (decided (cardOf number k p m generators counts checks) frames (length frames - m)))
     output₀)
+
+-- for every card with these tables: the frames that the rule hands out stand at the front of the output, and the rest of it is as it was
+abbrev pub ReceivedBy : List ℕ → List ℕ → List ℕ → ℕ → ℕ → ℕ → List ℕ → List ℕ → List ℕ → Type 0
+ReceivedBy generators counts checks k p m frames output₀ output =
+    (number : ℕ)
+    → Guarantees (cardOf number k p m generators counts checks)
+    → output ≡ decoded (cardOf number k p m generators counts checks) frames ++ drop (length frames - m) output₀

@@ -1,8 +1,8 @@
 use mathlib.Core.Path.{refl}
 use borrow.Author.Needs.{needs}
 use Rattle.bits.specs.Digits.{shiftUp}
-use Rattle.burst.proofs.receive.put_in.Statement.{statement}
-use Rattle.burst.proofs.receive.put_in.Tie as tie
+use Rattle.burst.proofs.registers.put_in.Statement.{statement}
+use Rattle.burst.proofs.registers.put_in.Tie as tie
 
 cast-result : tie.Need-cast-result
 cast-result c = search needs

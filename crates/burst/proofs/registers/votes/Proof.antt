@@ -1,20 +1,16 @@
 -- The loop's word has the checks that it passed as its digits.
-use Prim.Native.Nat.{ℕ, _+_, _-_, _*_, _^_, _≤_, _<_}
-use mathlib.Core.Path.{_≡_, refl, sym, ap, ap₂, _∙_}
-use native.Mathlib.Nat.{le-antisymm}
+use Prim.Native.Nat.{_+_, _-_, _*_, _^_, _≤_, _<_}
+use mathlib.Core.Path.{_≡_, refl, _∙_}
 use native.Mathlib.Omega.{arith}
 use lib.Count.{ones}
 use lib.Pow.{pow-mono}
+use borrow.Author.Needs.{needs}
 use Rattle.bits.specs.Sums.{sumBelow}
 use Rattle.bits.proofs.Sums.{sum-step, sum-end}
 use Rattle.burst.specs.Registers.{checkBy, votesBy}
 use Rattle.burst.proofs.Voting.{check-lt, ones-more, word-more}
-use borrow.Author.Needs.{needs}
-use Rattle.burst.proofs.receive.votes.Statement.{statement}
-use Rattle.burst.proofs.receive.votes.Tie as tie
-use Rattle.burst.proofs.receive.votes.Reads as reads
-use Rattle.burst.proofs.receive.votes.Lts as lts
-use Rattle.burst.proofs.receive.check.Reads as check-reads
+use Rattle.burst.proofs.registers.votes.Statement.{statement}
+use Rattle.burst.proofs.registers.votes.Tie as tie
 
 abbrev Inv-loop : tie.InvT-loop
 Inv-loop checks i count syndromes p word₀ q₀ word q =

@@ -2,11 +2,8 @@ use mathlib.Core.Path.{ap}
 use native.Mathlib.Omega.{arith}
 use lib.Bits.{bitXor, xor-lt}
 use borrow.Author.Needs.{needs}
-use Rattle.burst.proofs.receive.corrected.Statement.{statement}
-use Rattle.burst.proofs.receive.corrected.Tie as tie
-use Rattle.burst.proofs.receive.corrected.Reads as reads
-use Rattle.burst.proofs.receive.corrected.Lts as lts
-use Rattle.burst.proofs.receive.information.Reads as information-reads
+use Rattle.burst.proofs.registers.corrected.Statement.{statement}
+use Rattle.burst.proofs.registers.corrected.Tie as tie
 
 information-requires : tie.Need-information-requires
 information-requires c κs = search needs

@@ -1,10 +1,7 @@
 use borrow.Author.Needs.{needs}
 use borrow.Author.Tests.{lt-ltb, le-ltb}
-use Rattle.burst.proofs.receive.majority.Statement.{statement}
-use Rattle.burst.proofs.receive.majority.Tie as tie
-use Rattle.burst.proofs.receive.majority.Reads as reads
-use Rattle.burst.proofs.receive.majority.Lts as lts
-use Rattle.burst.proofs.receive.size.Reads as size-reads
+use Rattle.burst.proofs.registers.majority.Statement.{statement}
+use Rattle.burst.proofs.registers.majority.Tie as tie
 
 size-requires : tie.Need-size-requires
 size-requires c κs = search needs

@@ -1,14 +1,11 @@
-use Prim.Native.Nat.{ℕ, _+_, _*_, _%_, _^_, _≤_, _<_}
-use mathlib.Core.Path.{_≡_, refl, sym, ap, ap₂, _∙_}
+use Prim.Native.Nat.{ℕ, _*_, _%_, _^_, _≤_}
+use mathlib.Core.Path.{_≡_, refl, _∙_}
 use native.Mathlib.Nat.{mod-lt, lt-of-lt-of-le}
 use native.Mathlib.Omega.{arith}
 use lib.Pow.{pow-pos, pow-mono, shl-exact}
 use borrow.Author.Needs.{needs}
-use Rattle.burst.proofs.receive.information.Statement.{statement}
-use Rattle.burst.proofs.receive.information.Tie as tie
-use Rattle.burst.proofs.receive.information.Reads as reads
-use Rattle.burst.proofs.receive.information.Lts as lts
-use Rattle.burst.proofs.receive.wide.Reads as wide-reads
+use Rattle.burst.proofs.registers.information.Statement.{statement}
+use Rattle.burst.proofs.registers.information.Tie as tie
 
 wide-requires : tie.Need-wide-requires
 wide-requires c κs = search needs

@@ -1,22 +1,14 @@
 -- The loop has taken the frame into the registers of the parity streams that it passed.
-use Prim.Native.Nat.{ℕ, _+_, _-_, _*_, _/_, _%_, _^_, _≤_, _<_}
-use mathlib.Core.Path.{_≡_, refl, sym, ap, ap₂, _∙_}
-use mathlib.Core.List.{List}
+use Prim.Native.Nat.{ℕ, _-_, _%_, _^_, _≤_, _<_}
+use mathlib.Core.Path.{_≡_, refl, _∙_}
 use native.Mathlib.Omega.{arith}
-use lib.ListN.{length, getD}
 use borrow.Author.Needs.{needs}
 use Rattle.bits.specs.Sums.{upTo}
 use Rattle.bits.proofs.Lists.{part-step, part-end}
 use Rattle.burst.specs.Registers.{comingNext, syndromesNext, written}
 use Rattle.burst.proofs.TakingIn.{parity-is, coming-step, register-is, none-more}
-use Rattle.burst.proofs.receive.take_in.Statement.{statement}
-use Rattle.burst.proofs.receive.take_in.Tie as tie
-use Rattle.burst.proofs.receive.take_in.Reads as reads
-use Rattle.burst.proofs.receive.take_in.Lts as lts
-use Rattle.burst.proofs.receive.information.Reads as information-reads
-use Rattle.burst.proofs.receive.put_in.Reads as put-in-reads
-use Rattle.burst.proofs.receive.size.Reads as size-reads
-use Rattle.burst.proofs.receive.wide.Reads as wide-reads
+use Rattle.burst.proofs.registers.take_in.Statement.{statement}
+use Rattle.burst.proofs.registers.take_in.Tie as tie
 
 abbrev Inv-loop : tie.InvT-loop
 Inv-loop syndromes₀ coming₀ sums k p m frame at parities held₀ j₀ syndromes coming held j =

@@ -1,19 +1,16 @@
 -- The loop has taken the errors out of the registers that it passed.
-use Prim.Native.Nat.{ℕ, _+_, _-_, _*_, _≤_, _<_}
+use Prim.Native.Nat.{_+_, _-_, _*_, _≤_}
 use mathlib.Core.Path.{_≡_, refl, ap, ap₂, _∙_}
 use native.Mathlib.Nat.{le-refl}
 use native.Mathlib.Omega.{arith}
-use lib.ListN.{length, getD}
+use lib.ListN.{getD}
 use lib.Bits.{bitXor}
+use borrow.Author.Needs.{needs}
 use Rattle.bits.specs.Sums.{upTo}
 use Rattle.bits.proofs.Lists.{part-step, part-end, part-rest}
 use Rattle.burst.specs.Registers.{written, takenOut}
-use borrow.Author.Needs.{needs}
-use Rattle.burst.proofs.receive.take_out.Statement.{statement}
-use Rattle.burst.proofs.receive.take_out.Tie as tie
-use Rattle.burst.proofs.receive.take_out.Reads as reads
-use Rattle.burst.proofs.receive.take_out.Lts as lts
-use Rattle.burst.proofs.receive.size.Reads as size-reads
+use Rattle.burst.proofs.registers.take_out.Statement.{statement}
+use Rattle.burst.proofs.registers.take_out.Tie as tie
 
 abbrev Inv-loop : tie.InvT-loop
 Inv-loop syndromes₀ sums p errors at j₀ syndromes j = (j ≤ p) × (syndromes ≡ written j (takenOut sums syndromes₀ errors) syndromes₀)

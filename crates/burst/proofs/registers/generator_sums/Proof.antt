@@ -1,13 +1,13 @@
 -- The loop has filled the entries that it passed.
-use Prim.Native.Nat.{ℕ, _+_, _-_, _*_, _/_, _%_, _≤_, _<_}
-use mathlib.Core.Path.{_≡_, refl, sym, ap, ap₂, _∙_}
+use Prim.Native.Nat.{ℕ, _-_, _/_, _%_, _≤_}
+use mathlib.Core.Path.{_≡_, refl, ap, _∙_}
 use native.Mathlib.Omega.{arith}
-use lib.ListN.{length, take, set, length-set}
+use lib.ListN.{length, take, length-set}
 use Rattle.bits.specs.Sums.{upTo}
 use Rattle.bits.proofs.Lists.{fill-step, fill-end}
 use Rattle.burst.specs.Registers.{generatorSum, generatorSums}
-use Rattle.burst.proofs.receive.generator_sums.Statement.{statement}
-use Rattle.burst.proofs.receive.generator_sums.Tie as tie
+use Rattle.burst.proofs.registers.generator_sums.Statement.{statement}
+use Rattle.burst.proofs.registers.generator_sums.Tie as tie
 
 abbrev Inv-loop : tie.InvT-loop
 Inv-loop generators sums₀ at₀ sums at =

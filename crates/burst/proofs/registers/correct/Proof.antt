@@ -1,22 +1,18 @@
-use Prim.Native.Nat.{ℕ, _^_, _≤_, _<_}
-use mathlib.Core.Path.{_≡_, refl, sym, ap, _∙_}
+use Prim.Native.Nat.{_<_}
+use mathlib.Core.Path.{refl, sym}
 use mathlib.Core.Logic.{inl, inr}
 use native.Mathlib.Nat.{lt-of-lt-of-le}
 use native.Mathlib.Omega.{arith}
 use lib.Pow.{pow-mono}
-use Rattle.burst.proofs.Voting.{decide-lt, decide-none}
 use borrow.Author.Needs.{needs}
-use Rattle.burst.proofs.receive.correct.Statement.{statement}
-use Rattle.burst.proofs.receive.correct.Tie as tie
-use Rattle.burst.proofs.receive.correct.Reads as reads
-use Rattle.burst.proofs.receive.correct.Lts as lts
-use Rattle.burst.proofs.receive.decide.Reads as decide-reads
-use Rattle.burst.proofs.receive.take_out.Reads as take-out-reads
+use Rattle.burst.proofs.Voting.{decide-lt, decide-none}
+use Rattle.burst.proofs.registers.correct.Statement.{statement}
+use Rattle.burst.proofs.registers.correct.Tie as tie
 
 returns : tie.Need-returns
 returns c =
     record {
-      errors-are = sym (decide-none _ _ _ _ (c .before .pre .4 (c .if1 .taken)) (c .before .args .k));
+      errors-are = sym (decide-none _ _ _ _ (c .before .pre .1 (c .if1 .taken)) (c .before .args .k));
       after-is = inl (refl, refl);
     }
 

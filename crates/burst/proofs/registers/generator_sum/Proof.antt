@@ -1,5 +1,5 @@
 -- The loop's sum is that of the streams that it passed.
-use Prim.Native.Nat.{ℕ, _+_, _-_, _*_, _^_, _≤_, _<_}
+use Prim.Native.Nat.{ℕ, _+_, _-_, _*_, _≤_}
 use mathlib.Core.Path.{_≡_, refl, sym, ap, ap₂, _∙_}
 use native.Mathlib.Nat.{mul-le-mul-left, le-antisymm}
 use native.Mathlib.Omega.{arith}
@@ -10,8 +10,8 @@ use Rattle.bits.specs.Digits.{bit}
 use Rattle.bits.proofs.Digits.{bit-le}
 use Rattle.bits.proofs.Words.{xor-more}
 use Rattle.burst.specs.Registers.{generatorSum}
-use Rattle.burst.proofs.receive.generator_sum.Statement.{statement}
-use Rattle.burst.proofs.receive.generator_sum.Tie as tie
+use Rattle.burst.proofs.registers.generator_sum.Statement.{statement}
+use Rattle.burst.proofs.registers.generator_sum.Tie as tie
 
 abbrev Inv-loop : tie.InvT-loop
 Inv-loop generators x j sum₀ i₀ sum i = (i ≤ 4) × (sum ≡ xorBelow i (λ a. getD generators (a * 8 + j) 0 * bit x a))

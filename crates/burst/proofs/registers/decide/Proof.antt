@@ -1,23 +1,16 @@
 -- The loop has decided the errors of the streams that it passed.
-use Prim.Native.Nat.{ℕ, _+_, _-_, _*_, _^_, _≤_, _<_}
-use mathlib.Core.Path.{_≡_, refl, sym, ap, _∙_}
-use mathlib.Core.Bool.{cond}
+use Prim.Native.Nat.{_-_, _^_, _≤_, _<_}
+use mathlib.Core.Path.{_≡_, refl, ap, _∙_}
 use native.Mathlib.Nat.{le-antisymm}
 use native.Mathlib.Omega.{arith}
-use lib.ListN.{getD}
-use lib.Dec.{ltb}
+use borrow.Author.Needs.{needs}
 use Rattle.bits.specs.Sums.{sumBelow}
 use Rattle.bits.specs.Digits.{fromDigits, shiftUp}
 use Rattle.bits.proofs.Words.{placed-fits}
-use Rattle.burst.specs.Registers.{votesBy, majorityBy, decideBy}
+use Rattle.burst.specs.Registers.{majorityBy, decideBy}
 use Rattle.burst.proofs.Voting.{majority-of, majority-lt, errors-lt, errors-more}
-use borrow.Author.Needs.{needs}
-use Rattle.burst.proofs.receive.decide.Statement.{statement}
-use Rattle.burst.proofs.receive.decide.Tie as tie
-use Rattle.burst.proofs.receive.decide.Reads as reads
-use Rattle.burst.proofs.receive.decide.Lts as lts
-use Rattle.burst.proofs.receive.majority.Reads as majority-reads
-use Rattle.burst.proofs.receive.votes.Reads as votes-reads
+use Rattle.burst.proofs.registers.decide.Statement.{statement}
+use Rattle.burst.proofs.registers.decide.Tie as tie
 
 abbrev Inv-loop : tie.InvT-loop
 Inv-loop counts checks syndromes k p errors₀ i₀ errors i = (i ≤ k) × (errors ≡ fromDigits i (majorityBy counts checks syndromes p))

@@ -1,21 +1,18 @@
 -- The loop's sum has, in its ones, the parity of the streams that it passed.
-use Prim.Native.Nat.{ℕ, _+_, _-_, _%_, _^_, _≤_, _<_}
+use Prim.Native.Nat.{_+_, _-_, _%_, _^_, _≤_, _<_}
 use mathlib.Core.Path.{_≡_, refl, ap, _∙_}
 use native.Mathlib.Nat.{le-antisymm}
 use native.Mathlib.Omega.{arith}
 use lib.ListN.{getD}
 use lib.Bits.{xor-lt}
 use lib.Count.{ones}
+use borrow.Author.Needs.{needs}
 use Rattle.bits.specs.Sums.{sumBelow}
 use Rattle.bits.specs.Digits.{dot}
 use Rattle.burst.specs.Registers.{checkBy}
 use Rattle.burst.proofs.Voting.{ones-of-common, parity-more}
-use borrow.Author.Needs.{needs}
-use Rattle.burst.proofs.receive.check.Statement.{statement}
-use Rattle.burst.proofs.receive.check.Tie as tie
-use Rattle.burst.proofs.receive.check.Reads as reads
-use Rattle.burst.proofs.receive.check.Lts as lts
-use Rattle.burst.proofs.receive.common.Reads as common-reads
+use Rattle.burst.proofs.registers.check.Statement.{statement}
+use Rattle.burst.proofs.registers.check.Tie as tie
 
 abbrev Inv-loop : tie.InvT-loop
 Inv-loop checks at syndromes p sum₀ j₀ sum j =
