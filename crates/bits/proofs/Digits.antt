@@ -5,13 +5,13 @@ use mathlib.Core.Logic.{⊎-elim}
 use native.Mathlib.Nat.{mod-lt, zero-lt-suc, div-eq-of-lt, lt-of-lt-of-le, zero-div, pow-suc, pow-succ', mul-le-mul-right, mod-eq-of-lt}
 use native.Mathlib.Numerals.{add-one, one-add}
 use native.Mathlib.Omega.{arith}
-use lib.Pow.{pow-pos, pow-mono, shr-shr, high, low, field, mod-mod-pow, mod-pow-add}
+use lib.Pow.{pow-mono, shr-shr, high, low, field, mod-mod-pow, mod-pow-add}
 use lib.Bits.{bitAnd, bitOr, bitXor, and-shr, and-step, or-shr, or-step, xor-shr, xor-add-and, shifted-half, shifted-even}
 use lib.Count.{ones, ones-step}
 use Rattle.bits.specs.Sums.{sumBelow, xorBelow}
 use Rattle.bits.specs.Digits.{bit, fromDigits}
 use Rattle.bits.proofs.Cases.{last-or-below}
-use Rattle.bits.proofs.Sums.{sum-same, sum-cong, sum-first}
+use Rattle.bits.proofs.Sums.{sum-same, sum-cong, sum-first, sum-cut}
 
 pub bit-le : (x a : ℕ) → bit x a ≤ 1
 unfolding bit
@@ -114,6 +114,16 @@ ones-sum (suc k) n h =
     ones-step n
     ∙ ap₂ _+_ (sym (bit-zero n)) (ones-sum k (n / 2) (omega (arith, pow-suc 2 k)) ∙ sum-cong k (λ a. sym (bit-suc n a)))
     ∙ sym (sum-first k (λ a. bit n a))
+
+self-lt : (n : ℕ) → n < 2 ^ n
+self-lt zero = omega arith
+self-lt (suc n) = omega (arith, self-lt n, pow-suc 2 n)
+
+-- the same of a number that has no digit at k or beyond
+pub ones-of-digits : (k n : ℕ) → ((a : ℕ) → k ≤ a → bit n a ≡ 0) → ones n ≡ sumBelow k (λ a. bit n a)
+ones-of-digits k n z =
+    ones-sum (max k n) n (lt-of-lt-of-le (self-lt n) (pow-mono {i = n} {j = max k n} (omega arith)))
+    ∙ sum-cut (max k n) k (λ a. bit n a) (omega arith) z
 
 -- ---- and, or, exclusive or
 

@@ -15,8 +15,8 @@ use borrow.Author.Tests.{lt-ltb, leb-true, leb-false}
 use lib.Bits.{bitAnd, bitXor, and-le-l, and-lt, xor-lt}
 use lib.Count.{ones, ones-le}
 use Rattle.bits.specs.Sums.{sumBelow, xorBelow}
-use Rattle.bits.specs.Digits.{bit, dot, shiftUp, anyBeyond}
-use Rattle.bits.proofs.Sums.{sum-cong, sum-same, sum-add, sum-cut, sum-mod, sum-more}
+use Rattle.bits.specs.Digits.{bit, fromDigits, dot, shiftUp, anyBeyond}
+use Rattle.bits.proofs.Sums.{sum-cong, sum-add, sum-cut, sum-mod, sum-more, sum-step}
 use Rattle.bits.proofs.Digits.{bit-and, bit-xor, bit-high, bit-shift, digits-lt, ones-sum}
 
 -- the ones of both words
@@ -56,6 +56,11 @@ module _ (x d i : ℕ) (hx : x < 2 ^ i) (hd : d < 2) (hi : i < 32) where
 
   pub placed-fits : x + shiftUp d i < 2 ^ 32
   placed-fits = lt-of-lt-of-le placed-lt (pow-mono {i = i + 1} {j = 32} (omega arith))
+
+  -- one turn
+  pub placed-more : (f : ℕ → ℕ) → x ≡ fromDigits i f → d ≡ f i → x + shiftUp d i ≡ fromDigits (i + 1) f
+  unfolding fromDigits
+  placed-more f e q = rw (shift-digit d i hd hi) (sum-step i (λ a. f a * 2 ^ a) e (ap (λ n. n * 2 ^ i) q))
 
 -- ---- a loop that adds up masked words by exclusive or, and counts the ones once
 module _ (s x y : ℕ) (hs : s < 2 ^ 32) (hx : x < 2 ^ 32) (hy : y < 2 ^ 32) where

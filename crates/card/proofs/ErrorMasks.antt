@@ -1,21 +1,20 @@
 -- The judgement by masks, case by case, and the digits of the masks.
-use Prim.Native.Nat.{ℕ, zero, suc, _+_, _-_, _*_, _/_, _%_, _^_, _≤_, _<_, max}
+use Prim.Native.Nat.{ℕ, zero, suc, _-_, _*_, _/_, _%_, _≤_, _<_, max}
 use mathlib.Core.Path.{_≡_, refl, sym, ap, ap₂, _∙_}
 use mathlib.Core.List.{List}
-use mathlib.Core.Logic.{_⊎_, inl, inr, ⊎-elim}
+use mathlib.Core.Logic.{⊎-elim}
 use native.Mathlib.Omega.{arith}
-use lib.ListN.{length, getD, set}
+use lib.ListN.{length, getD}
 use lib.Seq.{getD-set-same, getD-set-other}
-use lib.Dec.{ltb}
 use lib.Bits.{bitOr}
-use borrow.Author.Tests.{eq-eqb, ne-eqb, lt-ltb, le-ltb}
+use borrow.Author.Tests.{eq-eqb, ne-eqb}
 use Rattle.bits.specs.Sums.{sumBelow, upTo}
-use Rattle.bits.specs.Digits.{bit, dot, fromDigits}
+use Rattle.bits.specs.Digits.{bit, dot}
 use Rattle.bits.proofs.Cases.{same-or-not}
 use Rattle.bits.proofs.Sums.{sum-none, none-of-sum}
 use Rattle.bits.proofs.Lists.{upTo-length, upTo-at}
-use Rattle.bits.proofs.Digits.{bit-le, bit-lt, bit-zero, bit-suc, bit-or}
-use Rattle.card.specs.ErrorMasks.{touchBy, errorMask, errorsBy, others, shared, joined, JudgedOutcome, judgeBy}
+use Rattle.bits.proofs.Digits.{bit-le, bit-zero, bit-suc, bit-or}
+use Rattle.card.specs.ErrorMasks.{touchBy, errorMask, errorsBy, others, shared, joined, judgeBy}
 
 pub touch-lt : (generators masks : List ℕ) (p s b : ℕ) → touchBy generators masks p s b < 2
 unfolding touchBy

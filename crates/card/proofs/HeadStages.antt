@@ -1,23 +1,22 @@
 -- The reader's parts put together: a fault as it is handed on, and the head field by field.
 use Prim.Native.Nat.{ℕ, _+_, _-_, _*_, _/_, _%_, _^_, _≤_, _<_}
 use mathlib.Core.Path.{_≡_, sym, ap, _∙_}
-use mathlib.Core.List.{List, []}
+use mathlib.Core.List.{List}
 use native.Mathlib.Nat.{mul-le-mul, one-mul}
 use native.Mathlib.Omega.{arith}
-use lib.ListN.{length, replicate}
+use lib.ListN.{replicate}
 use lib.Pow.{shl-exact}
 use Rattle.card.specs.Refusals.{numberOf}
-use Rattle.card.specs.Outcome.{Outcome, outcomeOf}
-use Rattle.card.specs.Outcome.Outcome.{accepted, refused}
+use Rattle.card.specs.Outcome.{outcomeOf}
+use Rattle.card.specs.Outcome.Outcome.{accepted}
 use Rattle.card.specs.Fields.{emptyCard, storeRows}
 use Rattle.card.specs.Reading.{Field, byteField, kField, nField, readHead}
 use Rattle.card.specs.Reading.Field.{value, bad}
-use Rattle.card.specs.Parts.{fieldOf, verdictOf, PartOutcome, partOf, refusedPart, headPart}
+use Rattle.card.specs.Parts.{verdictOf, partOf, refusedPart, headPart}
 use Rattle.card.specs.declared.Refusal.{Refusal}
 use Rattle.card.specs.declared.Verdict.{Verdict}
-use Rattle.card.specs.declared.Verdict.the-variants.{Accepted, Refused}
 use Rattle.card.specs.declared.fields.FieldRead.{FieldRead}
-use Rattle.card.specs.declared.fields.FieldRead.the-variants.{Value, Fault}
+use Rattle.card.specs.declared.fields.FieldRead.the-variants.{Fault}
 use Rattle.card.specs.declared.parts.Part.{Part}
 
 -- a fault handed on

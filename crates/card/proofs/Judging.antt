@@ -1,59 +1,34 @@
 -- The judgement by masks is the definition's: the masks hold the errors that the checks touch, digit by digit.
-use Prim.Native.Nat.{ℕ, zero, suc, _+_, _-_, _*_, _/_, _%_, _^_, _≤_, _<_, max}
-use mathlib.Core.Path.{_≡_, refl, sym, ap, ap₂, subst, _∙_, fun-ext}
-use mathlib.Core.Bool.{Bool, true, false, cond}
+use Prim.Native.Nat.{ℕ, suc, _+_, _-_, _*_, _/_, _%_, _^_, _≤_, _<_, max}
+use mathlib.Core.Path.{_≡_, sym, ap, subst, _∙_, fun-ext}
 use mathlib.Core.List.{List, [], _∷_}
 use mathlib.Core.Logic.{_⊎_, inl, inr, ⊎-elim}
 use native.Mathlib.Numerals.{add-one}
 use native.Mathlib.Omega.{arith}
 use lib.ListN.{length, getD, replicate, List·getD-eq-default}
-use lib.Dec.{eqb, ltb}
-use borrow.Author.Tests.{eq-eqb, ne-eqb, lt-ltb, le-ltb, eqb-true, eqb-false}
+use borrow.Author.Tests.{eq-eqb, ne-eqb, lt-ltb, le-ltb}
 use Rattle.bits.specs.Sums.{sumBelow, back}
-use Rattle.bits.specs.Digits.{bit, dot, fromDigits}
-use Rattle.bits.proofs.Cases.{le-or-lt, same-or-not, digit-zero, cond-le}
-use Rattle.bits.proofs.Sums.{sum-same, sum-none, none-of-sum}
+use Rattle.bits.specs.Digits.{bit, dot}
+use Rattle.bits.proofs.Cases.{le-or-lt, same-or-not, digit-zero}
+use Rattle.bits.proofs.Sums.{sum-same}
 use Rattle.bits.proofs.Back.{sum-from}
 use Rattle.bits.proofs.Lists.{zeros-at}
 use Rattle.bits.proofs.Digits.{bit-le, bit-zero, bit-high, bit-of-zero, bit-from-digits, from-digits-lt}
 use Rattle.bits.proofs.Words.{dot-shifted}
 use Rattle.card.specs.Code.{generator}
 use Rattle.card.specs.Checks.{touchesInfo, touchesBy}
-use Rattle.card.specs.Reading.{maskAt, otherError, touchedBy, clashes, judge}
+use Rattle.card.specs.Reading.{maskAt, touchedBy, clashes, judge}
 use Rattle.card.specs.ErrorMasks.{touchBy, errorMask, errorsBy, others, shared, joined, JudgedOutcome, judgeBy}
 use Rattle.card.specs.declared.Card.{Card}
 use Rattle.card.proofs.Touches.{touches-by-le}
+use Rattle.card.proofs.Clashes.{no-clash, clash-none}
 use Rattle.card.proofs.ErrorMasks.{touch-lt, errors-long, errors-at, others-away, others-own, shared-none, shared-some, joined-bit}
-
--- ---- the own digit's error, and any other
-other-not : (i b s : ℕ) → (b ≡ 0 → s ≡ i → ⊥) → otherError i b s ≡ 1
-unfolding otherError
-other-not i b s n =
-    ⊎-elim
-    (λ z. ⊎-elim (λ q. absurd (n z q)) (λ q. simp (eq-eqb b 0 z, ne-eqb s i q)) (same-or-not s i))
-    (λ z. simp (ne-eqb b 0 z)) (same-or-not b 0)
-
-other-own : (i b s : ℕ) → otherError i b s ≡ 1 → b ≡ 0 → s ≡ i → ⊥
-unfolding otherError
-other-own i b s e z q = let w : _≡_ {A = ℕ} 0 1 = rw (eq-eqb b 0 z, eq-eqb s i q) at e in omega arith
-
-other-le : (i b s : ℕ) → otherError i b s ≤ 1
-unfolding otherError
-other-le i b s = cond-le (eqb b 0) _ _ 1 (cond-le (eqb s i) 0 1 1 (omega arith) (omega arith)) (omega arith)
-
-product-none : (o t v : ℕ) → o ≤ 1 → t ≤ 1 → (o ≡ 1 → t ≡ 1 → 1 ≤ v → ⊥) → o * (t * v) ≡ 0
-product-none zero t v h l n = omega arith
-product-none (suc zero) zero v h l n = omega arith
-product-none (suc zero) (suc zero) zero h l n = refl
-product-none (suc zero) (suc zero) (suc v) h l n = absurd (n refl refl (omega arith))
-product-none (suc zero) (suc (suc t)) v h l n = absurd (omega arith)
-product-none (suc (suc o)) t v h l n = absurd (omega arith)
 
 -- the errors touched by the earlier checks of stream i, their own digit's left out
 pub record Union (c : Card) (i : ℕ) (earlier : List (List ℕ)) (touched : List ℕ) : Type 0 where
   pub only : (s b : ℕ) → s < 8 → b < 32 → bit (getD touched s 0) b ≡ 1
-      → (s < c .k + c .p) × ((b ≤ c .m) × ((otherError i b s ≡ 1) × (1 ≤ touchedBy c earlier b s)))
-  pub all : (s b : ℕ) → s < c .k + c .p → b ≤ c .m → otherError i b s ≡ 1 → 1 ≤ touchedBy c earlier b s → bit (getD touched s 0) b ≡ 1
+      → (s < c .k + c .p) × ((b ≤ c .m) × ((b ≡ 0 → s ≡ i → ⊥) × (1 ≤ touchedBy c earlier b s)))
+  pub all : (s b : ℕ) → s < c .k + c .p → b ≤ c .m → (b ≡ 0 → s ≡ i → ⊥) → 1 ≤ touchedBy c earlier b s → bit (getD touched s 0) b ≡ 1
 
 pub union-none : (c : Card) (i : ℕ) → Union c i [] (replicate 8 0)
 unfolding touchedBy
@@ -120,7 +95,7 @@ module _ (c : Card) (n-most : c .k + c .p ≤ 8) (k-most : c .k ≤ 4) (m-most :
 
         -- an error of the check, other than that of its own digit
         other-only : (s b : ℕ) → s < 8 → bit (getD (others errs i) s 0) b ≡ 1
-            → (s < c .k + c .p) × ((b ≤ c .m) × ((otherError i b s ≡ 1) × (touchesBy c (maskAt vs) b s ≡ 1)))
+            → (s < c .k + c .p) × ((b ≤ c .m) × ((b ≡ 0 → s ≡ i → ⊥) × (touchesBy c (maskAt vs) b s ≡ 1)))
         other-only s b l e =
             let away : b ≡ 0 → s ≡ i → ⊥ =
             λ z q.
@@ -132,36 +107,23 @@ module _ (c : Card) (n-most : c .k + c .p ≤ 8) (k-most : c .k ≤ 4) (m-most :
             let out : (c .k + c .p ≤ s) ⊎ (c .m < b) → ⊥ = λ x. let z = errors-out s b l x in omega arith in
             let ls : s < c .k + c .p = ⊎-elim (λ x. absurd (out (inl x))) (λ x. x) (le-or-lt (c .k + c .p) s) in
             let lb : b ≤ c .m = ⊎-elim (λ x. x) (λ x. absurd (out (inr x))) (le-or-lt b (c .m)) in
-            (ls, (lb, (other-not i b s away, sym (errors-in s b l lb) ∙ here)))
+            (ls, (lb, (away, sym (errors-in s b l lb) ∙ here)))
 
-        other-all : (s b : ℕ) → s < c .k + c .p → b ≤ c .m → otherError i b s ≡ 1 → touchesBy c (maskAt vs) b s ≡ 1 → bit (getD (others errs i) s 0) b ≡ 1
-        other-all s b ls lb o t = others-away errs i long own s b (other-own i b s o) ∙ errors-in s b (omega arith) lb ∙ t
+        other-all : (s b : ℕ) → s < c .k + c .p → b ≤ c .m → (b ≡ 0 → s ≡ i → ⊥) → touchesBy c (maskAt vs) b s ≡ 1 → bit (getD (others errs i) s 0) b ≡ 1
+        other-all s b ls lb o t = others-away errs i long own s b o ∙ errors-in s b (omega arith) lb ∙ t
 
         -- no error stands in both exactly if the check clashes with none
-        no-clash : shared touched (others errs i) ≡ 0 → clashes c i earlier vs ≡ 0
-        unfolding clashes
-        no-clash e =
-            sum-none (suc (c .m)) _
-            (λ b lb.
-            sum-none (c .k + c .p) _
-            (λ s ls.
-            product-none (otherError i b s) (touchesBy c (maskAt vs) b s) (touchedBy c earlier b s) (other-le i b s) (touches-by-le c (maskAt vs) b s)
-            (λ o t v. shared-some touched (others errs i) e s b (omega arith) (omega arith) (u .all s b ls (omega arith) o v) (other-all s b ls (omega arith) o t))))
+        none-clash : shared touched (others errs i) ≡ 0 → clashes c i earlier vs ≡ 0
+        none-clash e =
+            no-clash c i earlier vs
+            (λ b s lb ls o t v. shared-some touched (others errs i) e s b (omega arith) (omega arith) (u .all s b ls lb o v) (other-all s b ls lb o t))
 
         none-shared : clashes c i earlier vs ≡ 0 → shared touched (others errs i) ≡ 0
-        unfolding clashes
         none-shared e =
             shared-none touched (others errs i)
             (λ s b hs hb x y.
-            let a = u .only s b hs hb x in
             let o = other-only s b hs y in
-            let z =
-            none-of-sum (c .k + c .p) (λ s. otherError i b s * (touchesBy c (maskAt vs) b s * touchedBy c earlier b s))
-            (none-of-sum (suc (c .m)) (λ b. sumBelow (c .k + c .p) (λ s. otherError i b s * (touchesBy c (maskAt vs) b s * touchedBy c earlier b s))) e b (omega arith))
-            s (a .0) in
-            let w : 1 * (1 * touchedBy c earlier b s) ≡ 0 =
-            sym (ap₂ (λ x y. x * (y * touchedBy c earlier b s)) (a .1 .1 .0) (o .1 .1 .1)) ∙ z in
-            omega arith)
+            clash-none c i b s (o .1 .0) (o .0) (o .1 .1 .0) earlier vs e (o .1 .1 .1) (u .only s b hs hb x .1 .1 .1))
 
         union-more : Union c i (vs ∷ earlier) (joined touched (others errs i))
         unfolding touchedBy
@@ -173,7 +135,7 @@ module _ (c : Card) (n-most : c .k + c .p ≤ 8) (k-most : c .k ≤ 4) (m-most :
           where
             either : (s b : ℕ) → s < 8 → b < 32 → max (bit (getD touched s 0) b) (bit (getD (others errs i) s 0) b) ≡ 1
                 → (bit (getD touched s 0) b ≡ 1) ⊎ (bit (getD touched s 0) b ≡ 1 → ⊥)
-                → (s < c .k + c .p) × ((b ≤ c .m) × ((otherError i b s ≡ 1) × (1 ≤ touchesBy c (maskAt vs) b s + touchedBy c earlier b s)))
+                → (s < c .k + c .p) × ((b ≤ c .m) × ((b ≡ 0 → s ≡ i → ⊥) × (1 ≤ touchesBy c (maskAt vs) b s + touchedBy c earlier b s)))
             either s b hs hb e (inl x) = let a = u .only s b hs hb x in (a .0, (a .1 .0, (a .1 .1 .0, (let v = a .1 .1 .1 in omega arith))))
             either s b hs hb e (inr x) =
                 let l = bit-le (getD touched s 0) b in
@@ -181,7 +143,7 @@ module _ (c : Card) (n-most : c .k + c .p ≤ 8) (k-most : c .k ≤ 4) (m-most :
                 let z : bit (getD touched s 0) b ≡ 0 = digit-zero l x in
                 let o = other-only s b hs (omega arith) in (o .0, (o .1 .0, (o .1 .1 .0, (let v = o .1 .1 .1 in omega arith))))
 
-            touched-by : (s b : ℕ) → s < c .k + c .p → b ≤ c .m → otherError i b s ≡ 1 → 1 ≤ touchesBy c (maskAt vs) b s + touchedBy c earlier b s
+            touched-by : (s b : ℕ) → s < c .k + c .p → b ≤ c .m → (b ≡ 0 → s ≡ i → ⊥) → 1 ≤ touchesBy c (maskAt vs) b s + touchedBy c earlier b s
                 → (touchesBy c (maskAt vs) b s ≡ 1) ⊎ (touchesBy c (maskAt vs) b s ≡ 1 → ⊥)
                 → max (bit (getD touched s 0) b) (bit (getD (others errs i) s 0) b) ≡ 1
             touched-by s b ls lb o t (inl x) = let a = other-all s b ls lb o x in let l = bit-le (getD touched s 0) b in omega arith
@@ -203,7 +165,7 @@ module _ (c : Card) (n-most : c .k + c .p ≤ 8) (k-most : c .k ≤ 4) (m-most :
             where
               stands : getD errs i 0 % 2 ≡ 1 → (shared touched (others errs i) ≡ 0) ⊎ (shared touched (others errs i) ≡ 0 → ⊥) → judge c i earlier vs ≡ judgeBy errs touched i .number
               stands o (inl z) =
-                  rw (eq-eqb (getD errs i 0 % 2) 1 o, eq-eqb (shared touched (others errs i)) 0 z, eq-eqb (touchesBy c (maskAt vs) 0 i) 1 (sym (own-is i i-most) ∙ o), eq-eqb (clashes c i earlier vs) 0 (no-clash o z))
+                  rw (eq-eqb (getD errs i 0 % 2) 1 o, eq-eqb (shared touched (others errs i)) 0 z, eq-eqb (touchesBy c (maskAt vs) 0 i) 1 (sym (own-is i i-most) ∙ o), eq-eqb (clashes c i earlier vs) 0 (none-clash o z))
               stands o (inr z) =
                   rw (eq-eqb (getD errs i 0 % 2) 1 o, ne-eqb (shared touched (others errs i)) 0 z, eq-eqb (touchesBy c (maskAt vs) 0 i) 1 (sym (own-is i i-most) ∙ o), ne-eqb (clashes c i earlier vs) 0 (λ e. z (none-shared o e)))
 

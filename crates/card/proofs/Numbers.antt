@@ -1,5 +1,5 @@
 -- The published numbers: none is zero.
-use Prim.Native.Nat.{ℕ, _≤_}
+use Prim.Native.Nat.{_≤_}
 use native.Mathlib.Omega.{arith}
 use Rattle.card.specs.Refusals.{numberOf}
 use Rattle.card.specs.declared.Refusal.{Refusal}

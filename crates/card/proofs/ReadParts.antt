@@ -1,11 +1,11 @@
 -- What is known where a part of a card was read.
-use Prim.Native.Nat.{ℕ, zero, suc, _+_, _-_, _*_, _/_, _%_, _^_, _≤_, _<_}
+use Prim.Native.Nat.{ℕ, zero, suc, _+_, _*_, _/_, _%_, _^_, _≤_}
 use mathlib.Core.Path.{_≡_, refl, sym, ap, _∙_}
-use mathlib.Core.List.{List, [], _∷_}
+use mathlib.Core.List.{List}
 use native.Mathlib.Omega.{arith}
 use lib.ListN.{length}
 use Rattle.card.specs.Fields.{Head}
-use Rattle.card.specs.Reading.{Field, Read, next, mapRead, field, kField, nField, mapField, readHead, readMasks, readRows, readGenerators}
+use Rattle.card.specs.Reading.{Field, Read, next, mapRead, field, kField, nField, readHead, readMasks, readRows, readGenerators}
 use Rattle.card.specs.Reading.Field.{value, bad}
 use Rattle.card.specs.Reading.Read.{got, fault}
 use Rattle.card.proofs.FieldValues.{ByteIs, byte-is, k-is, n-is, map-is, standing-inside}

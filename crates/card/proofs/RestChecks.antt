@@ -1,5 +1,5 @@
 -- The rest of the checks from where the loops of `read_checks` stand: one law for each turn, fault and end.
-use Prim.Native.Nat.{ℕ, suc, _+_, _-_, _*_, _/_, _%_, _^_, _≤_, _<_}
+use Prim.Native.Nat.{ℕ, _+_, _-_, _*_, _/_, _%_, _^_, _≤_, _<_}
 use mathlib.Core.Path.{_≡_, refl, sym, ap, _∙_}
 use mathlib.Core.Bool.{Bool, true, false, cond}
 use mathlib.Core.List.{List, [], _∷_, _++_, append-assoc, append-nil}
@@ -7,9 +7,8 @@ use native.Mathlib.Nat.{sub-zero, add-zero, add-assoc}
 use lib.ListN.{set, replicate}
 use lib.Dec.{eqb}
 use borrow.Author.Tests.{eq-eqb, ne-eqb}
-use Rattle.card.specs.Outcome.{Outcome}
-use Rattle.card.specs.Outcome.Outcome.{accepted, refused}
-use Rattle.card.specs.Fields.{Stream, store, storeChecks, storeStreams, storeCounts}
+use Rattle.card.specs.Outcome.Outcome.{accepted}
+use Rattle.card.specs.Fields.{store, storeChecks, storeStreams, storeCounts}
 use Rattle.card.specs.Reading.{Read, mapRead, next, byteField, standingMask, readMasks, judge, judged, readCheck, readChecks, readStreams}
 use Rattle.card.specs.Reading.Field.{value, bad}
 use Rattle.card.specs.Reading.Read.{got, fault}

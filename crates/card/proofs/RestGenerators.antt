@@ -1,17 +1,16 @@
 -- The rest of the generators from where the loops of `read_generators` stand: one law for each turn, fault and end, and what the loops keep.
 use Prim.Native.Nat.{ℕ, _+_, _-_, _*_, _/_, _%_, _^_, _≤_, _<_}
-use mathlib.Core.Path.{_≡_, refl, sym, ap, ap₂, _∙_}
-use mathlib.Core.List.{List, [], _∷_}
+use mathlib.Core.Path.{_≡_, sym, ap, ap₂, _∙_}
+use mathlib.Core.List.{List, _∷_}
 use native.Mathlib.Nat.{sub-zero, add-zero, add-assoc, div-div-eq-div-mul, pow-succ'}
 use native.Mathlib.Omega.{arith}
 use lib.ListN.{length, set, replicate}
 use Rattle.card.specs.Refusals.{numberOf}
-use Rattle.card.specs.Outcome.{Outcome, outcomeOf}
-use Rattle.card.specs.Outcome.Outcome.{accepted, refused}
+use Rattle.card.specs.Outcome.Outcome.{accepted}
 use Rattle.card.specs.Fields.{store, storeRows}
-use Rattle.card.specs.Reading.{Read, mapRead, standingMask, mapField, readMasks, readRows, readGenerators}
+use Rattle.card.specs.Reading.{mapRead, standingMask, mapField, readMasks, readRows, readGenerators}
 use Rattle.card.specs.Reading.Field.{value, bad}
-use Rattle.card.specs.Parts.{after, PartOutcome, partOf, refusedPart, withGenerators, generatorsPart}
+use Rattle.card.specs.Parts.{after, PartOutcome, refusedPart, withGenerators, generatorsPart}
 use Rattle.card.specs.declared.Card.{Card}
 use Rattle.card.specs.declared.Refusal.{Refusal}
 use Rattle.card.specs.declared.Verdict.{Verdict}

@@ -1,19 +1,17 @@
 -- The parts of a card put together: what `read_card` gives is what the definition reads.
 use Prim.Native.Nat.{ℕ, _+_, _-_, _≤_, _<_}
-use mathlib.Core.Path.{_≡_, refl, sym, ap, ap₂, subst, _∙_}
-use mathlib.Core.Bool.{Bool, true, false, cond}
+use mathlib.Core.Path.{_≡_, refl, sym, ap, ap₂, _∙_}
 use mathlib.Core.List.{List, []}
 use native.Mathlib.Omega.{arith}
-use lib.ListN.{length, replicate}
-use lib.Dec.{ltb}
+use lib.ListN.{length}
 use borrow.Author.Tests.{lt-ltb, le-ltb}
 use Rattle.card.specs.Refusals.{numberOf}
-use Rattle.card.specs.Outcome.{Outcome, CardOutcome, outcomeOf, published}
+use Rattle.card.specs.Outcome.{outcomeOf, published}
 use Rattle.card.specs.Outcome.Outcome.{accepted, refused}
-use Rattle.card.specs.Fields.{Head, Stream, Fields, storeRows, emptyCard, codeOf, withChecks, cardOf}
-use Rattle.card.specs.Reading.{Read, readHead, readGenerators, readStreams, readFields, answer, refusedCard, readCard}
+use Rattle.card.specs.Fields.{Head, Stream, emptyCard, codeOf, withChecks, cardOf}
+use Rattle.card.specs.Reading.{Read, readHead, readGenerators, readStreams, readFields, refusedCard, readCard}
 use Rattle.card.specs.Reading.Read.{got, fault}
-use Rattle.card.specs.Parts.{after, PartOutcome, partOf, refusedPart, headPart, withGenerators, generatorsPart, checksPart}
+use Rattle.card.specs.Parts.{after, PartOutcome, partOf, refusedPart, headPart, generatorsPart, checksPart}
 use Rattle.card.specs.declared.Card.{Card}
 use Rattle.card.specs.declared.CardRead.{CardRead}
 use Rattle.card.specs.declared.Refusal.{Refusal}

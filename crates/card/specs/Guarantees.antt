@@ -4,7 +4,7 @@
 use Prim.Native.Nat.{ℕ, _+_, _*_, _^_, _≤_, _<_}
 use mathlib.Core.Path.{_≡_}
 use mathlib.Core.Logic.{_⊎_}
-use lib.ListN.{length, getD}
+use lib.ListN.{getD}
 use Rattle.card.specs.Checks.{count, Orthogonal}
 use Rattle.card.specs.declared.Card.{Card}
 

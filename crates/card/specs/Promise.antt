@@ -5,7 +5,7 @@ use Prim.Native.Nat.{ℕ, _≤_}
 use mathlib.Core.Path.{_≡_}
 use mathlib.Core.List.{List}
 use lib.ListN.{length}
-use Rattle.card.specs.Outcome.{Outcome, published, outcomeOf}
+use Rattle.card.specs.Outcome.{published, outcomeOf}
 use Rattle.card.specs.Outcome.Outcome.{accepted}
 use Rattle.card.specs.Fields.{Fields, cardOf}
 use Rattle.card.specs.Layout.{Acceptable}

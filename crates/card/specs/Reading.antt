@@ -7,7 +7,7 @@ use mathlib.Core.List.{List, [], _∷_}
 use lib.ListN.{length, getD}
 use lib.Dec.{leb, ltb, eqb}
 use Rattle.bits.specs.Sums.{sumBelow}
-use Rattle.card.specs.Outcome.{Outcome, CardOutcome}
+use Rattle.card.specs.Outcome.{CardOutcome}
 use Rattle.card.specs.Outcome.Outcome.{accepted, refused}
 use Rattle.card.specs.Checks.{touchesBy}
 use Rattle.card.specs.Fields.{Head, Stream, Fields, emptyCard, codeOf, cardOf}

@@ -1,5 +1,15 @@
+-- the rule
 pub mod Streams
 pub mod Majority
 pub mod Linear
 pub mod Theorem
 pub mod Feedback
+-- the session
+pub mod Step
+pub mod Bounds
+pub mod Yields
+pub mod Outcomes
+pub mod Answers
+pub mod Follow
+pub mod ByRule
+pub mod Opening

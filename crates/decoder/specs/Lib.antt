@@ -1,2 +1,9 @@
 pub mod Rule
 pub mod AsSent
+pub mod Readings
+pub mod Answers
+pub mod Registers
+pub mod Receive
+pub mod Calls
+pub mod Claims
+pub mod Opening

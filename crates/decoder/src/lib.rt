@@ -1,4 +1,220 @@
 // The receiving session: frames in, frames out, by Massey's majority rule with feedback.
-pub fn nothing() -> u8 {
-    0
+mod readings;
+mod registers;
+
+use card::Card;
+use card::Refusal;
+use card::Verdict;
+use readings::ReadFrame;
+ghost use mathlib.Core.Path.{_≡_};
+ghost use Prim.Native.Nat.{_<_};
+ghost use Rattle.card.specs.Refusals.{numberOf};
+ghost use Rattle.decoder.specs.Answers.{receivedOf};
+ghost use Rattle.decoder.specs.Opening.{OpenPromise};
+ghost use Rattle.decoder.specs.Readings.{frameYieldOf};
+ghost use Rattle.decoder.specs.Receive.{freshOf, streamsOf, refusedOf, withFrame, handingOf, takenOf, receiveOf, receiveByteOf, receiveReadingsOf, linkFigureOf};
+
+// What a session holds between two calls.
+pub struct Session {
+    pub card: Card,
+    pub history: [u32; 4], // bit a of register i: information digit i of the frame a before the last one received
+    pub syndromes: [u32; 8], // bit a of register j: the syndrome of parity stream j, a after the frame that is decided next
+    pub received: u32, // how many frames were taken
+}
+
+// A level, or the mark 'erased'.
+pub enum Reading {
+    Level(f32),
+    Erased,
+}
+
+// What a receiving call answers.
+pub enum Answer {
+    Waiting,
+    Frame(u8),
+    Refused(Refusal),
+}
+
+// The answer, and the session for the next call.
+pub struct Received {
+    pub answer: Answer,
+    pub session: Session,
+}
+
+// What opening comes to: the verdict of card reading, and the session.
+pub struct Opened {
+    pub verdict: Verdict,
+    pub session: Session,
+}
+
+// A session receives this many frames.
+const MOST_FRAMES: u32 = 1048576;
+
+// A session that holds no digit, with so many frames counted as received.
+fn fresh(card: Card, received: u32) -> Session
+    ensures { λ r. ⌜ r ≡ freshOf card received ⌝ }
+{
+    Session {
+        card,
+        history: [0u32; 4],
+        syndromes: [0u32; 8],
+        received,
+    }
+}
+
+// Reads the card. A refused opening hands out a session with the empty card and no room left, so that it refuses every call.
+pub fn open(card: &[u8]) -> Opened
+    ensures { λ r. ⌜ OpenPromise (now (card .entry)) r ⌝ }
+{
+    let read = card::read_card(card);
+    let verdict = read.verdict;
+    let card = read.card;
+    match verdict {
+        Verdict::Accepted => {
+            let session = fresh(card, 0);
+            Opened { verdict, session }
+        }
+        Verdict::Refused {
+            refusal: _,
+            offset: _,
+        } => {
+            let session = fresh(card, MOST_FRAMES);
+            Opened { verdict, session }
+        }
+    }
+}
+
+// n, held to the digits of a byte.
+fn stream_count(k: usize, p: usize) -> usize
+    ensures { λ r. ⌜ r ≡ streamsOf k p ⌝ }
+{
+    bits::at_most(bits::at_most(k, 4) + bits::at_most(p, 8), 8)
+}
+
+// A refused call hands back the session as it was.
+fn refused(s: Session, refusal: Refusal) -> Received
+    ensures { λ r. ⌜ receivedOf r ≡ refusedOf s (numberOf refusal) ⌝ }
+{
+    Received {
+        answer: Answer::Refused(refusal),
+        session: s,
+    }
+}
+
+// The session with the digits and the syndromes of a frame more, and nothing decided yet.
+fn with_frame(s: Session, frame: u8) -> Session
+    requires { ⌜ s .received < 1048576 ⌝ }
+    ensures { λ r. ⌜ r ≡ withFrame s frame ⌝ }
+{
+    let card = s.card;
+    let before = s.history;
+    let held = s.syndromes;
+    let k = bits::at_most(card.k, 4);
+    let p = bits::at_most(card.p, 8);
+    let place = bits::at_most(s.received as usize, card.m);
+    let digits = frame as u32;
+    let history = card::code::history(&before, k, digits);
+    let syndromes = registers::with_syndromes(
+        &held,
+        &card.generators,
+        &history,
+        k,
+        p,
+        digits,
+        place,
+    );
+    let received = s.received + 1;
+    Session {
+        card,
+        history,
+        syndromes,
+        received,
+    }
+}
+
+// The frame m before the last one received, with its errors decided, and the session with these fed back.
+fn hand_out(s: Session) -> Received
+    ensures { λ r. ⌜ receivedOf r ≡ handingOf s ⌝ }
+{
+    let card = s.card;
+    let history = s.history;
+    let held = s.syndromes;
+    let k = bits::at_most(card.k, 4);
+    let p = bits::at_most(card.p, 8);
+    let errors = registers::decide_frame(&card.checks, &card.counts, &held, k, p);
+    let frame = registers::corrected(&history, errors, k, card.m);
+    let syndromes = registers::fed_back(&held, &card.generators, errors, k, p);
+    Received {
+        answer: Answer::Frame(frame),
+        session: Session {
+            card,
+            history,
+            syndromes,
+            received: s.received,
+        },
+    }
+}
+
+// A frame that is not refused: the first m give 'waiting', each later one the frame m before it.
+fn take(s: Session, frame: u8) -> Received
+    requires { ⌜ s .received < 1048576 ⌝ }
+    ensures { λ r. ⌜ receivedOf r ≡ takenOf s frame ⌝ }
+{
+    let card = s.card;
+    let m = card.m;
+    let received = s.received;
+    let next = with_frame(s, frame);
+    if (received as usize) < m {
+        return Received {
+            answer: Answer::Waiting,
+            session: next,
+        };
+    }
+    hand_out(next)
+}
+
+// A frame, or its refusal, under a card number: refused by 14, then 15, then its own refusal, or taken.
+fn receive(s: Session, number: u8, read: ReadFrame) -> Received
+    ensures { λ r. ⌜ receivedOf r ≡ receiveOf s number (frameYieldOf read) ⌝ }
+{
+    let card = s.card;
+    let own = card.number;
+    if number != own {
+        return refused(s, Refusal::OtherCardNumber);
+    }
+    let received = s.received;
+    if MOST_FRAMES <= received {
+        return refused(s, Refusal::TooManyFrames);
+    }
+    match read {
+        ReadFrame::Frame(frame) => take(s, frame),
+        ReadFrame::Refused(refusal) => refused(s, refusal),
+    }
+}
+
+// Receives a frame as a byte, sent under a card number.
+pub fn receive_byte(s: Session, number: u8, frame: u8) -> Received
+    ensures { λ r. ⌜ receivedOf r ≡ receiveByteOf s number frame ⌝ }
+{
+    let card = s.card;
+    let read = readings::read_byte(frame, stream_count(card.k, card.p));
+    receive(s, number, read)
+}
+
+// Receives a frame as eight readings, sent under a card number. Readings after the n-th are not looked at.
+pub fn receive_readings(s: Session, number: u8, readings: [Reading; 8]) -> Received
+    ensures { λ r. ⌜ receivedOf r ≡ receiveReadingsOf s number readings ⌝ }
+{
+    let card = s.card;
+    let read = readings::read_frame(readings, stream_count(card.k, card.p));
+    receive(s, number, read)
+}
+
+// The link figure: the count of ones in the syndromes that the session still holds.
+pub fn link_figure(s: Session) -> u32
+    ensures { λ r. ⌜ r ≡ linkFigureOf s ⌝ }
+{
+    let card = s.card;
+    let held = s.syndromes;
+    registers::ones(&held, bits::at_most(card.p, 8))
 }

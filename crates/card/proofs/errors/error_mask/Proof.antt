@@ -5,7 +5,7 @@ use native.Mathlib.Nat.{le-antisymm}
 use native.Mathlib.Omega.{arith}
 use borrow.Author.Tests.{lt-ltb, le-ltb}
 use Rattle.bits.specs.Sums.{sumBelow}
-use Rattle.bits.specs.Digits.{fromDigits, shiftUp}
+use Rattle.bits.specs.Digits.{fromDigits}
 use Rattle.bits.proofs.Sums.{sum-step}
 use Rattle.bits.proofs.Words.{shift-digit, placed-lt, placed-fits}
 use Rattle.card.specs.ErrorMasks.{touchBy, errorMask}

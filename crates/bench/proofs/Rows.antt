@@ -1,0 +1,36 @@
+-- The starred cases follow from the definitions, by computing. Assumes nothing.
+use mathlib.Core.Path.{refl}
+use Rattle.bits.specs.Sums.{sumBelow, upTo, back}
+use Rattle.bits.specs.Digits.{bit, fromDigits, anyBeyond}
+use Rattle.card.specs.Code.{generator, digit, parityAt, withTail, sentDigit, sentFrame, sent}
+use Rattle.card.specs.Checks.{count, checkMask, touchesInfo, touchesBy}
+use Rattle.card.specs.Fields.{store, storeRows, storeChecks, storeStreams, storeCounts, cardOf}
+use Rattle.card.specs.Reading.{byteField, kField, nField, mapField, wordAt, maskField, readHead, standingMask, readMasks, readRows, readGenerators, otherError, touchedBy, clashes, judge, readCheck, readChecks, readStreams, readFields, readCard}
+use Rattle.decoder.specs.Rule.{syndrome, cleared, checkAt, votes, decide, decideFrame, decided, corrected, decoded}
+use Rattle.decoder.specs.Calls.{answersBy}
+use Rattle.burst.specs.Outcome.{refusedOf, givenOf, underCard}
+use Rattle.burst.specs.Receiving.{receiveUnder, receiveOf}
+use Rattle.bench.specs.Rows.{Rows}
+
+pub rows : Rows
+unfolding sumBelow upTo back bit fromDigits anyBeyond generator digit parityAt withTail sentDigit sentFrame sent count checkMask syndrome cleared checkAt votes decide decideFrame decided corrected decoded answersBy refusedOf givenOf underCard receiveUnder receiveOf touchesInfo touchesBy store storeRows storeChecks storeStreams storeCounts cardOf byteField kField nField mapField wordAt maskField readHead standingMask readMasks readRows readGenerators otherError touchedBy clashes judge readCheck readChecks readStreams readFields readCard
+rows =
+    record {
+      P-is-accepted = refl;
+      Q-is-accepted = refl;
+      R-is-accepted = refl;
+      R-with-s5 = refl;
+      Q-with-s2 = refl;
+      T-is-accepted = refl;
+      T-with-s2 = refl;
+      P-cut = refl;
+      P-longer = refl;
+      Q-with-s0-again = refl;
+      P-sends = refl;
+      P-receives = refl;
+      P-receives-two-errors = refl;
+      Q-receives = refl;
+      P-receives-one = refl;
+      empty-burst = refl;
+      T-receives = refl;
+    }

@@ -1,0 +1,54 @@
+-- `bench::reading::cuts` is safe and ends. Assumes nothing.
+use Prim.Native.Nat.{_≤_, _-_}
+use borrow.Author.Needs.{needs}
+use Rattle.bench.proofs.reading.cuts.Statement.{statement}
+use Rattle.bench.proofs.reading.cuts.Tie as tie
+
+abbrev Inv-loop : tie.InvT-loop
+Inv-loop len₀ len = len ≤ 20
+
+abbrev μ-loop : tie.MeasureT-loop
+μ-loop len₀ len = 20 - len
+
+slice-aggregate-card : tie.Need-slice-aggregate-card Inv-loop μ-loop
+slice-aggregate-card c = search needs
+
+empty-requires : tie.Need-empty-requires Inv-loop μ-loop
+empty-requires c κs = search needs
+
+card-requires : tie.Need-card-requires Inv-loop μ-loop
+card-requires c κs = search needs
+
+loop-holds : tie.Need-loop-holds Inv-loop μ-loop
+loop-holds c = search needs
+
+cut-requires : tie.Need-cut-requires Inv-loop μ-loop
+cut-requires c κs = search needs
+
+add-len : tie.Need-add-len Inv-loop μ-loop
+add-len c = search needs
+
+loop-less : tie.Need-loop-less Inv-loop μ-loop
+loop-less c = search needs
+
+loop-again : tie.Need-loop-again Inv-loop μ-loop
+loop-again c = search needs
+
+returns : tie.Need-returns Inv-loop μ-loop
+returns c = search needs
+
+pub cuts-spec : {M : Type 1} → statement M
+cuts-spec =
+    tie.close
+    (tie.spec
+    Inv-loop
+    μ-loop
+    slice-aggregate-card
+    empty-requires
+    card-requires
+    loop-holds
+    cut-requires
+    add-len
+    loop-less
+    loop-again
+    returns)

@@ -1,0 +1,18 @@
+// The bench: the cases of document 01, "Cards on the bench". The starred ones are a theorem over the definitions; all of them run here
+// through the code, and the lines are held to `stdout`.
+mod cards;
+mod lines;
+mod reading;
+mod sixteen;
+
+ghost use Rattle.bench.specs.Rows.{Rows};
+
+// The starred cases, over the definitions. Nothing runs: what is promised is the theorem, and as a promise it is asked for by every check.
+fn starred_rows()
+    ensures { λ _. ⌜ Rows ⌝ }
+{}
+
+fn main() {
+    starred_rows();
+    reading::cases();
+}

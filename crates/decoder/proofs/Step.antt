@@ -1,0 +1,173 @@
+-- One frame: the registers hold the rule's cleared syndromes before it, with it, and once its errors are fed back.
+-- The whole list of received frames is fixed; the frame of time t comes in, and that of time u = t - m, if there is one, is decided.
+use Prim.Native.Nat.{ℕ, suc, _+_, _-_, _*_, _/_, _%_, _^_, _≤_, _<_, min}
+use mathlib.Core.Path.{_≡_, sym, ap, ap₂, _∙_}
+use mathlib.Core.Bool.{cond}
+use mathlib.Core.Logic.{⊎-elim}
+use mathlib.Core.List.{List, [], _∷_, _++_}
+use native.Mathlib.Nat.{eq-or-lt-of-le, mul-zero, zero-mul}
+use native.Mathlib.Omega.{arith}
+use lib.ListN.{length, getD, replicate}
+use lib.Dec.{ltb}
+use lib.Bits.{bitXor}
+use borrow.Author.Tests.{lt-ltb, le-ltb}
+use Rattle.bits.specs.Sums.{sumBelow}
+use Rattle.bits.specs.Digits.{bit, dot, shiftUp}
+use Rattle.bits.proofs.Cases.{le-or-lt}
+use Rattle.bits.proofs.Sums.{sum-same, sum-cut, sum-none}
+use Rattle.bits.proofs.Lists.{part-at}
+use Rattle.bits.proofs.Back.{back-in}
+use Rattle.bits.proofs.Digits.{bit-lt, bit-suc, bit-high, bit-xor, bit-masks, place-same, place-other, from-digits-same}
+use Rattle.bits.proofs.Words.{shift-digit}
+use Rattle.card.specs.Code.{generator, digit}
+use Rattle.card.specs.Checks.{count, checkMask}
+use Rattle.card.specs.Guarantees.{Guarantees}
+use Rattle.card.specs.Registers.{generatorMask}
+use Rattle.card.specs.declared.Card.{Card}
+use Rattle.card.proofs.Registers.{HistoryWith, in-table, parity-next}
+use Rattle.decoder.specs.Rule.{syndrome, cleared, checkAt, votes, decide, decideFrame, decided, corrected}
+use Rattle.decoder.specs.Registers.{syndromeBy, withSyndromes, checkBy, votesBy, decideBy, decideFrameBy, correctedBy, feedbackBy, fedBackBy}
+use Rattle.decoder.proofs.Streams.{decided-length, decided-at}
+use Rattle.decoder.proofs.Feedback.{cleared-lt, syndrome-lt, cleared-new, cleared-fed}
+
+-- digit a of syndrome register j after n frames: the syndrome of time u + a, with these errors taken out, if that frame was received
+unfoldable pub held : Card → List ℕ → List ℕ → ℕ → ℕ → ℕ → ℕ → ℕ
+held c frames errors u n j a = cond (ltb (u + a) n) (cleared c frames errors (u + a) j) 0
+
+module _ (c : Card) (frames errors : List ℕ) (u n j a : ℕ) where
+  pub held-in : u + a < n → held c frames errors u n j a ≡ cleared c frames errors (u + a) j
+  unfolding held
+  held-in h = rw (lt-ltb (u + a) n h)
+
+  pub held-out : n ≤ u + a → held c frames errors u n j a ≡ 0
+  unfolding held
+  held-out h = rw (le-ltb (u + a) n h)
+
+-- the registers hold the syndromes of times u to n - 1, with the errors decided before u taken out
+abbrev pub SyndromesAt : Card → List ℕ → ℕ → ℕ → List ℕ → Type 0
+SyndromesAt c frames u n y = (j a : ℕ) → j < c .p → bit (getD y j 0) a ≡ held c frames (decided c frames u) u n j a
+
+-- a digit added where there was none
+alone-left : {x y v : ℕ} → x ≡ v → y ≡ 0 → v < 2 → (x + y) % 2 ≡ v
+alone-left e q h = omega arith
+
+alone-right : {x y v : ℕ} → x ≡ 0 → y ≡ v → v < 2 → (x + y) % 2 ≡ v
+alone-right e q h = omega arith
+
+module _ (c : Card) (G : Guarantees c) (frames : List ℕ) (t u : ℕ) (hu : u ≡ t - c .m) where
+  -- ---- the frame comes in
+  module _ (h : List ℕ) (H : HistoryWith c frames t h) (f : ℕ) (hf : f ≡ getD frames t 0) where
+    syndrome-next : (j : ℕ) → j < c .p → syndromeBy (c .generators) h (c .k) f j ≡ syndrome c frames t j
+    unfolding syndromeBy syndrome digit
+    syndrome-next j hj = ap₂ (λ (x y : ℕ). (bit x (c .k + j) + y) % 2) hf (parity-next c G frames t h H j hj)
+
+    pub syndromes-next : (y : List ℕ) → SyndromesAt c frames u t y → SyndromesAt c frames u (suc t) (withSyndromes y (c .generators) h (c .k) (c .p) f (min t (c .m)))
+    unfolding withSyndromes
+    syndromes-next y Y j a hj =
+        let errors = decided c frames u in
+        let d = syndrome c frames t j in
+        let b = min t (c .m) in
+        let hd : d < 2 = syndrome-lt c frames t j in
+        ap (λ (x : ℕ). bit x a)
+        (part-at (λ i. bitXor (getD y i 0) (shiftUp (syndromeBy (c .generators) h (c .k) f i) b)) (replicate 8 0) (c .p) j hj
+        ∙ ap (λ (x : ℕ). bitXor (getD y j 0) (shiftUp x b)) (syndrome-next j hj)
+        ∙ ap (λ (x : ℕ). bitXor (getD y j 0) x) (shift-digit d b hd (omega (arith, G .m-most))))
+        ∙ bit-xor (getD y j 0) (d * 2 ^ b) a
+        ∙ ⊎-elim
+        (λ (l : u + a ≤ t).
+        ⊎-elim
+        (λ (q : u + a ≡ t).
+        alone-right (Y j a hj ∙ held-out c frames errors u t j a (omega arith)) (at-place a d hd (omega arith)) hd
+        ∙ sym (cleared-new c frames errors t j (omega (arith, decided-length c frames u))) ∙ ap (λ (x : ℕ). cleared c frames errors x j) (sym q))
+        (λ (q : u + a < t).
+        alone-left (Y j a hj ∙ held-in c frames errors u t j a q) (place-other d b a hd (λ e. absurd (omega arith))) (cleared-lt c frames errors (u + a) j))
+        (eq-or-lt-of-le l)
+        ∙ sym (held-in c frames errors u (suc t) j a (omega arith)))
+        (λ (l : t < u + a).
+        alone-left (Y j a hj ∙ held-out c frames errors u t j a (omega arith)) (place-other d b a hd (λ e. absurd (omega arith))) (omega arith)
+        ∙ sym (held-out c frames errors u (suc t) j a (omega arith)))
+        (le-or-lt (u + a) t)
+      where
+        at-place : (a d : ℕ) → d < 2 → a ≡ min t (c .m) → bit (d * 2 ^ min t (c .m)) a ≡ d
+        at-place a d l e = ap (λ (x : ℕ). bit (d * 2 ^ min t (c .m)) x) e ∙ place-same d (min t (c .m)) l
+
+  -- ---- the frame of time u is decided
+  module _ (hm : c .m ≤ t) (y : List ℕ) (Y : SyndromesAt c frames u (suc t) y) where
+    check-next : (i q : ℕ) → checkBy (c .checks) y (c .p) i q ≡ checkAt c frames (decided c frames u) u i q
+    unfolding checkBy checkAt checkMask dot
+    check-next i q = ap (λ (x : ℕ). x % 2) (sum-same (c .p) _ _ part)
+      where
+        part : (j : ℕ) → j < c .p
+            → dot (getD (c .checks) (i * 128 + q * 8 + j) 0) (getD y j 0)
+            ≡ sumBelow (suc (c .m)) (λ a. bit (checkMask c i q j) a * cleared c frames (decided c frames u) (u + a) j)
+        part j l =
+            let g = getD (c .checks) (i * 128 + q * 8 + j) 0 in
+            let errors = decided c frames u in
+            sum-cut 32 (suc (c .m)) (λ a. bit g a * bit (getD y j 0) a) (omega (arith, G .m-most))
+            (λ a w. ap (λ (x : ℕ). bit g a * x) (Y j a l ∙ held-out c frames errors u (suc t) j a (omega arith)) ∙ mul-zero (bit g a))
+            ∙ sum-same (suc (c .m)) _ _ (λ a w. ap (λ (x : ℕ). bit g a * x) (Y j a l ∙ held-in c frames errors u (suc t) j a (omega arith)))
+
+    decide-next : (i : ℕ) → decideBy (c .checks) y (c .p) i (min (getD (c .counts) i 0) 16) ≡ decide c frames (decided c frames u) u i
+    unfolding decideBy decide votesBy votes count
+    decide-next i =
+        let J = getD (c .counts) i 0 in
+        let e : min J 16 ≡ J = omega (arith, G .J-most i) in
+        ap (λ (x : ℕ). decideBy (c .checks) y (c .p) i x) e ∙ ap (λ (x : ℕ). cond (ltb J (2 * x)) 1 0) (sum-same J _ _ (λ q l. check-next i q))
+
+    pub decide-frame-next : decideFrameBy (c .checks) (c .counts) y (c .k) (c .p) ≡ decideFrame c frames (decided c frames u) u
+    unfolding decideFrameBy decideFrame
+    decide-frame-next = from-digits-same (c .k) _ _ (λ i l. decide-next i)
+
+    -- the frame handed out is the rule's, whatever is decided later
+    pub corrected-next : (h : List ℕ) → HistoryWith c frames t h → (n : ℕ) → u < n
+        → correctedBy h (decideFrame c frames (decided c frames u) u) (c .k) (c .m) ≡ corrected c frames (decided c frames n) u
+    unfolding correctedBy corrected digit
+    corrected-next h H n l =
+        from-digits-same (c .k) _ _
+        (λ i li.
+        ap₂ (λ (x z : ℕ). (x + z) % 2)
+        (H i (c .m) li (omega (arith, G .m-most)) ∙ back-in (digit frames i) t (c .m) hm ∙ ap (digit frames i) (sym hu))
+        (ap (λ (x : ℕ). bit x i) (sym (decided-at c frames n u l))))
+
+    -- what is fed back to register j: the generators of the streams in error
+    fed : (e j a : ℕ) → j < c .p → bit (feedbackBy (c .generators) e (c .k) j) a ≡ sumBelow (c .k) (λ i. generator c i j a * bit e i) % 2
+    unfolding feedbackBy generator
+    fed e j a hj =
+        bit-masks (c .k) (λ i. generatorMask (c .generators) i j) (λ i. bit e i) (λ i. bit-lt e i) a
+        ∙ ap (λ (x : ℕ). x % 2)
+        (sum-same (c .k) _ _ (λ i l. ap (λ (x : ℕ). bit x a * bit e i) (in-table (c .generators) i j (omega (arith, G .k-most)) (omega (arith, G .n-most)))))
+
+    -- the decided errors taken out, and the registers moved on
+    pub fed-next : SyndromesAt c frames (suc u) (suc t) (fedBackBy y (c .generators) (decideFrame c frames (decided c frames u) u) (c .k) (c .p))
+    unfolding fedBackBy decided
+    fed-next j a hj =
+        let errors = decided c frames u in
+        let e = decideFrame c frames errors u in
+        let x = getD y j 0 in
+        let z = sumBelow (c .k) (λ i. generator c i j (suc a) * bit e i) in
+        ap (λ (w : ℕ). bit w a) (part-at (λ b. bitXor (getD y b 0) (feedbackBy (c .generators) e (c .k) b) / 2) (replicate 8 0) (c .p) j hj)
+        ∙ sym (bit-suc (bitXor x (feedbackBy (c .generators) e (c .k) j)) a)
+        ∙ bit-xor x (feedbackBy (c .generators) e (c .k) j) (suc a)
+        ∙ ap₂ (λ (v w : ℕ). (v + w) % 2) (Y j (suc a) hj) (fed e j (suc a) hj)
+        ∙ mod-right (held c frames errors u (suc t) j (suc a)) z
+        ∙ ⊎-elim
+        (λ (l : t < suc u + a).
+        alone-left (held-out c frames errors u (suc t) j (suc a) (omega arith)) (none e a (omega arith)) (omega arith)
+        ∙ sym (held-out c frames (errors ++ (e ∷ [])) (suc u) (suc t) j a l))
+        (λ (l : suc u + a < suc t).
+        let q : u + suc a ≡ suc u + a = omega arith in
+        let r : suc u + a - length errors ≡ suc a = omega (arith, decided-length c frames u) in
+        ap (λ (v : ℕ). (v + z) % 2) (held-in c frames errors u (suc t) j (suc a) (omega arith) ∙ ap (λ (v : ℕ). cleared c frames errors v j) q)
+        ∙ ap (λ (b : ℕ). (cleared c frames errors (suc u + a) j + sumBelow (c .k) (λ i. generator c i j b * bit e i)) % 2) (sym r)
+        ∙ sym (cleared-fed errors e (suc u + a) (omega (arith, decided-length c frames u)) c j (omega (arith, decided-length c frames u)) frames)
+        ∙ sym (held-in c frames (errors ++ (e ∷ [])) (suc u) (suc t) j a l))
+        (le-or-lt (suc t) (suc u + a))
+      where
+        mod-right : (x y : ℕ) → (x + y % 2) % 2 ≡ (x + y) % 2
+        mod-right x y = omega arith
+
+        none : (e a : ℕ) → c .m ≤ a → sumBelow (c .k) (λ i. generator c i j (suc a) * bit e i) ≡ 0
+        none e a w =
+            unfold generator in
+            (sum-none (c .k) _
+            (λ i l. ap (λ (v : ℕ). v * bit e i) (bit-high (getD (c .generators) (i * 8 + j) 0) (c .m + 1) (suc a) (G .generators-within (i * 8 + j)) (omega arith)) ∙ zero-mul (bit e i)))

@@ -1,0 +1,36 @@
+use borrow.Author.Needs.{needs}
+use Rattle.decoder.specs.Receive.{errorsOf, handingOf}
+use Rattle.decoder.proofs.hand_out.Statement.{statement}
+use Rattle.decoder.proofs.hand_out.Tie as tie
+
+at-most-requires : tie.Need-at-most-requires
+at-most-requires c κs = search needs
+
+at-most-requires-2 : tie.Need-at-most-requires-2
+at-most-requires-2 c κs = search needs
+
+decide-frame-requires : tie.Need-decide-frame-requires
+decide-frame-requires c κs = search needs
+
+corrected-requires : tie.Need-corrected-requires
+corrected-requires c κs = search needs
+
+fed-back-requires : tie.Need-fed-back-requires
+fed-back-requires c κs = search needs
+
+returns : tie.Need-returns
+unfolding handingOf errorsOf
+returns c =
+    let d = c .before .before .before .before .before .before in
+    cc (c .fed-back .ensures, c .before .before .before .before .corrected .ensures, d .decide-frame .ensures, d .before .before .before .before .before .at-most2 .ensures, d .before .before .before .before .before .before .at-most .ensures)
+
+pub hand-out-spec : {M : Type 1} → statement M
+hand-out-spec =
+    tie.close
+    (tie.spec
+    at-most-requires
+    at-most-requires-2
+    decide-frame-requires
+    corrected-requires
+    fed-back-requires
+    returns)

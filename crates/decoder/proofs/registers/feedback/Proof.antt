@@ -1,0 +1,76 @@
+-- The loop has added up the generators of the streams in error that it passed.
+use Prim.Native.Nat.{ℕ, _*_, _-_, _^_, _≤_, _<_}
+use mathlib.Core.Path.{_≡_, refl, sym, ap, ap₂, _∙_}
+use native.Mathlib.Nat.{le-antisymm}
+use native.Mathlib.Omega.{arith}
+use lib.Bits.{bitXor, xor-lt}
+use Rattle.bits.specs.Sums.{xorBelow}
+use Rattle.bits.specs.Digits.{bit}
+use Rattle.bits.proofs.Words.{xor-more}
+use Rattle.card.specs.Registers.{generatorMask}
+use Rattle.decoder.specs.Registers.{feedbackBy}
+use Rattle.decoder.proofs.Bounds.{mask-times-lt}
+use Rattle.decoder.proofs.registers.feedback.Statement.{statement}
+use Rattle.decoder.proofs.registers.feedback.Tie as tie
+
+abbrev Inv-loop : tie.InvT-loop
+Inv-loop generators errors k j sum₀ i₀ sum i = (i ≤ k) × (sum < 2 ^ 32) × (sum ≡ xorBelow i (λ b. generatorMask generators b j * bit errors b))
+
+abbrev μ-loop : tie.MeasureT-loop
+μ-loop generators errors k j sum₀ i₀ sum i = k - i
+
+loop-holds : tie.Need-loop-holds Inv-loop μ-loop
+unfolding xorBelow
+loop-holds c = (omega arith, omega arith, refl)
+
+generator-requires : tie.Need-generator-requires Inv-loop μ-loop
+generator-requires c κs = tt
+
+digit-requires : tie.Need-digit-requires Inv-loop μ-loop
+digit-requires c κs = tt
+
+mul-sum : tie.Need-mul-sum Inv-loop μ-loop
+unfolding bit
+mul-sum c = record { fits = mask-times-lt (c .before .generator .result) (c .digit .result) (omega arith) (omega arith) }
+
+add-i : tie.Need-add-i Inv-loop μ-loop
+add-i c = omega arith
+
+loop-less : tie.Need-loop-less Inv-loop μ-loop
+loop-less c = omega arith
+
+loop-again : tie.Need-loop-again Inv-loop μ-loop
+unfolding bit
+loop-again c =
+    let l = c .before .before .before .loop in
+    let a = c .before .before .before .before .args in
+    let g = c .before .generator .result in
+    let d = c .digit .result in (
+      omega arith,
+      xor-lt 32 (l .sum) (g * d) (omega arith) (mask-times-lt g d (omega arith) (omega arith)),
+      ap₂ bitXor (l .inv .2) (ap₂ _*_ (c .before .generator .ensures) (c .digit .ensures))
+          ∙ sym (xor-more (l .i) (λ b. generatorMask (a .generators .now) b (a .j) * bit (a .errors) b)),
+    )
+
+returns : tie.Need-returns Inv-loop μ-loop
+unfolding feedbackBy
+returns c =
+    let a = c .before .before .args in
+    c .before .loop .inv .2
+    ∙ ap (λ (n : ℕ). xorBelow n (λ b. generatorMask (a .generators .now) b (a .j) * bit (a .errors) b))
+    (le-antisymm (c .before .loop .inv .0) (c .loop-test .left))
+
+pub feedback-spec : {M : Type 1} → statement M
+feedback-spec =
+    tie.close
+    (tie.spec
+    Inv-loop
+    μ-loop
+    loop-holds
+    generator-requires
+    digit-requires
+    mul-sum
+    add-i
+    loop-less
+    loop-again
+    returns)

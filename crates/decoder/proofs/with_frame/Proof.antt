@@ -1,0 +1,44 @@
+use borrow.Author.Needs.{needs}
+use Rattle.decoder.specs.Receive.{historyWith, syndromesWith, withFrame}
+use Rattle.decoder.proofs.with_frame.Statement.{statement}
+use Rattle.decoder.proofs.with_frame.Tie as tie
+
+at-most-requires : tie.Need-at-most-requires
+at-most-requires c κs = search needs
+
+at-most-requires-2 : tie.Need-at-most-requires-2
+at-most-requires-2 c κs = search needs
+
+cast-at-most : tie.Need-cast-at-most
+cast-at-most c = search needs
+
+at-most-requires-3 : tie.Need-at-most-requires-3
+at-most-requires-3 c κs = search needs
+
+history-requires : tie.Need-history-requires
+history-requires c κs = search needs
+
+with-syndromes-requires : tie.Need-with-syndromes-requires
+with-syndromes-requires c κs = search needs
+
+add-received : tie.Need-add-received
+add-received c = search needs
+
+returns : tie.Need-returns
+unfolding withFrame syndromesWith historyWith
+returns c =
+    let h = c .before .before .before .before .before .before in
+    cc (c .before .with-syndromes .ensures, h .history .ensures, h .before .before .at-most3 .ensures, h .before .before .before .before .at-most2 .ensures, h .before .before .before .before .before .at-most .ensures)
+
+pub with-frame-spec : {M : Type 1} → statement M
+with-frame-spec =
+    tie.close
+    (tie.spec
+    at-most-requires
+    at-most-requires-2
+    cast-at-most
+    at-most-requires-3
+    history-requires
+    with-syndromes-requires
+    add-received
+    returns)

@@ -1,0 +1,37 @@
+-- What opening a receiving session with a card's bytes comes to, and what holds of the session: document 01, "The card" and "Refused because of
+-- the state".
+-- Assumes nothing.
+use Prim.Native.Nat.{ℕ}
+use mathlib.Core.Path.{_≡_}
+use mathlib.Core.List.{List}
+use Rattle.card.specs.Fields.{emptyCard}
+use Rattle.card.specs.Outcome.{Outcome, accepted, refused, outcomeOf}
+use Rattle.card.specs.Reading.{readCard}
+use Rattle.card.specs.declared.Card.{Card}
+use Rattle.decoder.specs.Calls.{Call, numberIn, replyOf}
+use Rattle.decoder.specs.Claims.{Claims}
+use Rattle.decoder.specs.Receive.{freshOf, openOf, refusedOf}
+use Rattle.decoder.specs.declared.Opened.{Opened}
+use Rattle.decoder.specs.declared.Session.{Session}
+
+-- the session of a refused opening: the empty card, and no room for a frame
+unfoldable pub closed : Session
+closed = freshOf emptyCard 1048576
+
+-- the session that reading a card leads to
+unfoldable pub sessionFor : Outcome → Card → Session
+sessionFor accepted c = openOf c
+sessionFor (refused n offset) c = closed
+
+-- every call is refused, and hands the session back as it was
+pub record Closed (s : Session) : Type 0 where
+  pub other-refused : (call : Call) → (numberIn call ≡ s .card .number → ⊥) → replyOf s call ≡ refusedOf s 14
+  pub own-refused : (call : Call) → numberIn call ≡ s .card .number → replyOf s call ≡ refusedOf s 15
+
+pub record OpenPromise (bytes : List ℕ) (r : Opened) : Type 0 where
+  -- the verdict of card reading, its number and offset, for every slice
+  pub verdict-is : outcomeOf (r .verdict) ≡ readCard bytes .outcome
+  pub session-is : r .session ≡ sessionFor (readCard bytes .outcome) (readCard bytes .card)
+  -- with an accepted card any list of calls follows the rule, and a correctable stream comes out as sent
+  pub claims : outcomeOf (r .verdict) ≡ accepted → Claims (readCard bytes .card) (r .session)
+  pub shut : (n offset : ℕ) → outcomeOf (r .verdict) ≡ refused n offset → Closed (r .session)

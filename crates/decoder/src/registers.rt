@@ -1,0 +1,160 @@
+// The work on the registers of a session. Digit a of syndrome register j is the syndrome of parity stream j at time u + a, where the frame of
+// time u is decided next, with the errors decided before u taken out.
+ghost use mathlib.Core.Path.{_≡_};
+ghost use Prim.Native.Nat.{_<_, _≤_};
+ghost use Rattle.decoder.specs.Registers.{syndromeBy, withSyndromes, checkBy, votesBy, decideBy, decideFrameBy, correctedBy, feedbackBy, fedBackBy, onesBy};
+
+// The syndrome of parity stream j: its digit in the frame, plus the parity of the information digits in the history registers.
+fn syndrome(generators: &[u32; 32], history: &[u32; 4], k: usize, frame: u32, j: usize) -> u32
+    requires { ⌜ (k ≤ 4) × (j < 8) ⌝ }
+    ensures { λ r. ⌜ r ≡ syndromeBy (now (generators .entry)) (now (history .entry)) k frame j ⌝ }
+{
+    (bits::digit(frame, k + j) + card::code::parity(generators, history, k, j)) % 2
+}
+
+// The syndrome registers with the syndromes of a frame put in at a place; the history registers have the frame already.
+pub(crate) fn with_syndromes(
+    held: &[u32; 8],
+    generators: &[u32; 32],
+    history: &[u32; 4],
+    k: usize,
+    p: usize,
+    frame: u32,
+    place: usize,
+) -> [u32; 8]
+    requires { ⌜ (k ≤ 4) × (p ≤ 8) ⌝ }
+    ensures { λ r. ⌜ r ≡ withSyndromes (now (held .entry)) (now (generators .entry)) (now (history .entry)) k p frame place ⌝ }
+{
+    let mut next = [0u32; 8];
+    let mut j = 0;
+    while j < p {
+        let digit = syndrome(generators, history, k, frame, j);
+        next[j] = bits::word(held, j) ^ bits::shift_up(digit, place);
+        j += 1;
+    }
+    next
+}
+
+// Check q of stream i: the parity of the syndromes that its masks have.
+fn check(checks: &[u32; 512], held: &[u32; 8], p: usize, i: usize, q: usize) -> u32
+    requires { ⌜ (p ≤ 8) × (i < 4) × (q < 16) ⌝ }
+    ensures { λ r. ⌜ r ≡ checkBy (now (checks .entry)) (now (held .entry)) p i q ⌝ }
+{
+    let first = i * 128 + q * 8;
+    let mut sum: u32 = 0;
+    let mut j = 0;
+    while j < p {
+        sum = sum ^ (bits::word(checks, first + j) & bits::word(held, j));
+        j += 1;
+    }
+    u32::count_ones(sum) % 2
+}
+
+// How many of the checks of stream i are 1.
+fn votes(checks: &[u32; 512], held: &[u32; 8], p: usize, i: usize, count: usize) -> u32
+    requires { ⌜ (p ≤ 8) × (i < 4) × (count ≤ 16) ⌝ }
+    ensures { λ r. ⌜ r ≡ votesBy (now (checks .entry)) (now (held .entry)) p i count ⌝ }
+{
+    let mut sum: u32 = 0;
+    let mut q = 0;
+    while q < count {
+        sum = sum + check(checks, held, p, i, q);
+        q += 1;
+    }
+    sum
+}
+
+// The decided error of stream i: 1 exactly if twice the votes are more than its checks. A tie gives 0.
+fn decide(checks: &[u32; 512], held: &[u32; 8], p: usize, i: usize, count: usize) -> u32
+    requires { ⌜ (p ≤ 8) × (i < 4) × (count ≤ 16) ⌝ }
+    ensures { λ r. ⌜ r ≡ decideBy (now (checks .entry)) (now (held .entry)) p i count ⌝ }
+{
+    if (count as u32) < 2 * votes(checks, held, p, i, count) {
+        1
+    } else {
+        0
+    }
+}
+
+// The decided errors of all streams of a frame, before any is fed back: bit i for stream i.
+pub(crate) fn decide_frame<'a>(
+    checks: &'a [u32; 512],
+    counts: &'a [usize; 4],
+    held: &[u32; 8],
+    k: usize,
+    p: usize,
+) -> u32
+    requires { ⌜ (k ≤ 4) × (p ≤ 8) ⌝ }
+    ensures { λ r. ⌜ r ≡ decideFrameBy (now (checks .entry)) (now (counts .entry)) (now (held .entry)) k p ⌝ }
+{
+    let mut errors: u32 = 0;
+    let mut i = 0;
+    while i < k {
+        let count = bits::at_most(counts[i], 16);
+        errors = errors + bits::shift_up(decide(checks, held, p, i, count), i);
+        i += 1;
+    }
+    errors
+}
+
+// The frame of the digits m back in the history registers, each plus its decided error.
+pub(crate) fn corrected(history: &[u32; 4], errors: u32, k: usize, m: usize) -> u8
+    requires { ⌜ k ≤ 4 ⌝ }
+    ensures { λ r. ⌜ r ≡ correctedBy (now (history .entry)) errors k m ⌝ }
+{
+    let mut frame: u32 = 0;
+    let mut i = 0;
+    while i < k {
+        let received = bits::digit(bits::word(history, i), m);
+        frame = frame + bits::shift_up((received + bits::digit(errors, i)) % 2, i);
+        i += 1;
+    }
+    frame as u8
+}
+
+// What the decided errors changed in syndrome register j: the generators of the streams in error.
+fn feedback(generators: &[u32; 32], errors: u32, k: usize, j: usize) -> u32
+    ensures { λ r. ⌜ r ≡ feedbackBy (now (generators .entry)) errors k j ⌝ }
+{
+    let mut sum: u32 = 0;
+    let mut i = 0;
+    while i < k {
+        sum = sum ^ card::code::generator(generators, i, j) * bits::digit(errors, i);
+        i += 1;
+    }
+    sum
+}
+
+// The syndrome registers with the decided errors taken out, and moved on to the next frame.
+pub(crate) fn fed_back(
+    held: &[u32; 8],
+    generators: &[u32; 32],
+    errors: u32,
+    k: usize,
+    p: usize,
+) -> [u32; 8]
+    requires { ⌜ p ≤ 8 ⌝ }
+    ensures { λ r. ⌜ r ≡ fedBackBy (now (held .entry)) (now (generators .entry)) errors k p ⌝ }
+{
+    let mut next = [0u32; 8];
+    let mut j = 0;
+    while j < p {
+        next[j] = (bits::word(held, j) ^ feedback(generators, errors, k, j)) / 2;
+        j += 1;
+    }
+    next
+}
+
+// The ones of the first p registers.
+pub(crate) fn ones(held: &[u32; 8], p: usize) -> u32
+    requires { ⌜ p ≤ 8 ⌝ }
+    ensures { λ r. ⌜ r ≡ onesBy (now (held .entry)) p ⌝ }
+{
+    let mut sum: u32 = 0;
+    let mut j = 0;
+    while j < p {
+        sum = sum + u32::count_ones(bits::word(held, j));
+        j += 1;
+    }
+    sum
+}
