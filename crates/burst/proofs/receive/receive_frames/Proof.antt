@@ -1,6 +1,6 @@
 use native.Mathlib.Omega.{arith}
 use borrow.Author.Needs.{needs}
-use Rattle.burst.specs.Held.{cardOf}
+use Rattle.burst.specs.Held.{cardWith}
 use Rattle.burst.proofs.HandingOut.{none-handed, all-handed}
 use Rattle.burst.proofs.receive.receive_frames.Statement.{statement}
 use Rattle.burst.proofs.receive.receive_frames.Tie as tie
@@ -8,7 +8,7 @@ use Rattle.burst.proofs.receive.receive_frames.Tie as tie
 returns : tie.Need-returns
 returns c number G =
     let a = c .before .before .before .args in
-    none-handed (cardOf number (a .k) (a .p) (a .m) (a .generators .now) (a .counts .now) (a .checks .now)) (a .input .now) (a .output .now) (c .if1 .taken)
+    none-handed (cardWith number (a .k) (a .p) (a .m) (a .generators .now) (a .counts .now) (a .checks .now)) (a .input .now) (a .output .now) (c .if1 .taken)
 
 generator-sums-requires : tie.Need-generator-sums-requires
 generator-sums-requires c κs = search needs
