@@ -4,13 +4,13 @@ use Rattle.bits.specs.Sums.{sumBelow, back}
 use Rattle.bits.specs.Digits.{bit}
 use Rattle.card.specs.Code.{generator}
 use Rattle.card.specs.Checks.{touchesInfo, touchesBy}
-use Rattle.card.specs.Fields.{store, storeRows, storeChecks, storeStreams, storeCounts, cardOf}
+use Rattle.card.specs.Fields.{store, storeRows}
 use Rattle.card.specs.Reading.{byteField, kField, nField, mapField, wordAt, maskField, readHead, standingMask, readMasks, readRows, readGenerators, otherError, touchedBy, clashes, judge, readCheck, readChecks, readStreams, readFields, readCard}
 use Rattle.bench.specs.Cards.{checks}
 use Rattle.bench.specs.Rows.{Rows}
 
 pub rows : Rows
-unfolding sumBelow back bit generator touchesInfo touchesBy store storeRows storeChecks storeStreams storeCounts cardOf byteField kField nField mapField wordAt maskField readHead standingMask readMasks readRows readGenerators otherError touchedBy clashes judge readCheck readChecks readStreams readFields readCard checks
+unfolding sumBelow back bit generator touchesInfo touchesBy store storeRows byteField kField nField mapField wordAt maskField readHead standingMask readMasks readRows readGenerators otherError touchedBy clashes judge readCheck readChecks readStreams readFields readCard checks
 rows =
     record {
       P-is-accepted = refl;
