@@ -1,4 +1,4 @@
-// The lines that the bench writes.
+// The lines that the bench writes: what a case is, a colon, and what it came to.
 use crate::cards;
 use libc::STDOUT_FILENO;
 
@@ -23,22 +23,22 @@ fn verdict(v: card::Verdict) {
 }
 
 // What reading the first bytes comes to.
-fn read(bytes: &[u8], len: usize) -> card::Verdict {
+fn verdict_on(bytes: &[u8], len: usize) -> card::Verdict {
     let end = bits::at_most(len, bytes.len());
-    let found = card::read_card(&bytes[..end]);
-    found.verdict
+    let read = card::read_card(&bytes[..end]);
+    read.verdict
 }
 
-// What reading the card comes to, at the end of its line.
+// The end of a line: what reading the card comes to.
 pub(crate) fn outcome(draft: cards::Draft) {
     let bytes = draft.bytes;
-    let found = read(&bytes, draft.len);
+    let v = verdict_on(&bytes, draft.len);
     text(b": ");
-    verdict(found);
+    verdict(v);
     text(b"\n");
 }
 
-pub(crate) fn card(name: &[u8], draft: cards::Draft) {
+pub(crate) fn reading(name: &[u8], draft: cards::Draft) {
     text(name);
     outcome(draft);
 }

@@ -2,6 +2,7 @@
 // through the code, and the lines are held to `stdout`.
 mod cards;
 mod lines;
+mod longest;
 mod reading;
 mod sixteen;
 

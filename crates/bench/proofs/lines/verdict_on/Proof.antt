@@ -1,9 +1,9 @@
--- `bench::lines::read` is safe: the end is at most the length. Assumes nothing.
+-- `bench::lines::verdict_on` is safe: the end is at most the length. Assumes nothing.
 use native.Mathlib.Omega.{arith}
 use borrow.Author.Needs.{needs}
 use lib.ListN.{length-take}
-use Rattle.bench.proofs.lines.read.Statement.{statement}
-use Rattle.bench.proofs.lines.read.Tie as tie
+use Rattle.bench.proofs.lines.verdict_on.Statement.{statement}
+use Rattle.bench.proofs.lines.verdict_on.Tie as tie
 
 at-most-requires : tie.Need-at-most-requires
 at-most-requires c κs = search needs
@@ -17,6 +17,6 @@ read-card-requires c κs = search needs
 returns : tie.Need-returns
 returns c = search needs
 
-pub read-spec : {M : Type 1} → statement M
-read-spec =
+pub verdict-on-spec : {M : Type 1} → statement M
+verdict-on-spec =
     tie.close (tie.spec at-most-requires slice-aggregate-read-card read-card-requires returns)
