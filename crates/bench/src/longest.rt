@@ -3,21 +3,13 @@
 // It is a code with one information and one parity stream, four of its frames taken as one: what lies r frames after information stream i
 // is at offset (i + r) / 4 of parity stream (i + r) % 4. So the same sums of syndromes are the checks of all four streams. The generator's
 // terms and the checks were found by a random search: annealing over the terms, and over the check that each syndrome goes to.
-ghost use mathlib.Core.Path.{_≡_};
-ghost use Prim.Native.Nat.{_<_};
 use crate::cards;
-
-fn wide(value: u8) -> usize
-    ensures { λ r. ⌜ (r ≡ value) × (r < 256) ⌝ }
-{
-    value as usize
-}
 
 // Of what lies after information stream i, that on parity stream j, as a mask.
 fn gathered(after: &[u8], i: u8, j: usize) -> u32 {
     let mut m: u32 = 0;
     for at in 0..after.len() {
-        let place = wide(after[at]) + wide(i);
+        let place = bits::size(after[at]) + bits::size(i);
         if place % 4 == j {
             m = m | bits::shift_up(1, place / 4);
         }

@@ -10,12 +10,6 @@ ghost use lib.Dec.{ltb};
 ghost use Rattle.bits.specs.Digits.{shiftUp};
 ghost use Rattle.burst.specs.Registers.{generatorSum, generatorSums, TakenIn, written, checkBy, votesBy, decideBy, takenOut, Corrected};
 
-fn wide(x: u8) -> u32
-    ensures { λ r. ⌜ r ≡ x ⌝ }
-{
-    x as u32
-}
-
 fn size(x: u32) -> usize
     ensures { λ r. ⌜ r ≡ x ⌝ }
 {
@@ -27,7 +21,7 @@ fn information(frame: u8, k: usize) -> u32
     requires { ⌜ k ≤ 4 ⌝ }
     ensures { λ r. ⌜ (r ≡ frame % 2 ^ k) × (r < 16) ⌝ }
 {
-    wide(frame) % (1 << k)
+    bits::wide(frame) % (1 << k)
 }
 
 // The exclusive or of the generators, on parity stream j, of the information streams in x.
@@ -80,7 +74,7 @@ pub(crate) fn take_in(
     ensures { λ r. ⌜ TakenIn (now (sums .entry)) (now (coming .entry)) (now (syndromes .entry)) k p m frame (now (coming .exit)) (now (syndromes .exit)) r ⌝ }
 {
     let at = size(information(frame, k)) * 8;
-    let parities = wide(frame) >> k;
+    let parities = bits::wide(frame) >> k;
     let mut held: u32 = 0;
     let mut j = 0;
     while j < p {

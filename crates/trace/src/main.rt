@@ -13,7 +13,7 @@ fn stated_length(input: &[u8]) -> usize {
     if input.len() < 2 {
         return 0;
     }
-    records::wide(input[0]) + records::wide(input[1]) * 256
+    bits::size(input[0]) + bits::size(input[1]) * 256
 }
 
 // Opens both sessions with the card, and goes through the records after it.

@@ -1,21 +1,8 @@
 // The records of a trace: a kind and its bytes. Each is one call of a session.
-ghost use mathlib.Core.Path.{_≡_};
 ghost use Prim.Native.Nat.{_<_, _≤_};
 ghost use lib.ListN.{length};
 use crate::lines;
 use decoder::Reading;
-
-pub(crate) fn wide(x: u8) -> usize
-    ensures { λ r. ⌜ (r ≡ x) × (r < 256) ⌝ }
-{
-    x as usize
-}
-
-fn long(x: u8) -> u32
-    ensures { λ r. ⌜ (r ≡ x) × (r < 256) ⌝ }
-{
-    x as u32
-}
 
 // Byte i, zero beyond the record.
 fn byte(record: &[u8], i: usize) -> u8 {
@@ -48,10 +35,10 @@ fn level(pattern: u32) -> f32 {
 fn pattern(record: &[u8], at: usize) -> u32
     requires { ⌜ at < 1000 ⌝ }
 {
-    let a = long(byte(record, at));
-    let b = long(byte(record, at + 1));
-    let c = long(byte(record, at + 2));
-    let d = long(byte(record, at + 3));
+    let a = bits::wide(byte(record, at));
+    let b = bits::wide(byte(record, at + 1));
+    let c = bits::wide(byte(record, at + 2));
+    let d = bits::wide(byte(record, at + 3));
     a + b * 256 + c * 65536 + d * 16777216
 }
 

@@ -26,7 +26,7 @@ rem-result c = rw (size-is (c .before .args .k) (c .before .pre)) (pow-pos (c .b
 returns : tie.Need-returns
 returns c =
     let k = c .before .args .k in
-    rw (size-is k (c .before .pre), c .wide .ensures)
+    rw (size-is k (c .before .pre), c .wide .ensures .0)
     (refl, lt-of-lt-of-le (mod-lt (c .before .args .frame) (pow-pos k)) (pow-mono {i = k} {j = 4} (c .before .pre)))
 
 pub information-spec : {M : Type 1} → statement M

@@ -101,7 +101,7 @@ loop-again c =
     let p = parity-is (a .sums .now) (a .coming .now) (a .k) f (l .j) (l .inv .1) at in
     let y =
     c .put-in .ensures
-    ∙ register-is (a .sums .now) (a .coming .now) (a .syndromes .now) (a .k) (a .m) f (l .j) p (l .inv .2) (c .before .before .before .before .before .before .wide .ensures) in (
+    ∙ register-is (a .sums .now) (a .coming .now) (a .syndromes .now) (a .k) (a .m) f (l .j) p (l .inv .2) (c .before .before .before .before .before .before .wide .ensures .0) in (
       omega arith,
       part-step (comingNext (a .sums .now) (a .coming .now) (a .k) f) (a .coming .now) (l .j) (l .coming) _ (omega arith) (l .inv .1) (coming-step (a .sums .now) (a .coming .now) (a .k) f (l .j) p),
       part-step (syndromesNext (a .sums .now) (a .coming .now) (a .syndromes .now) (a .k) (a .m) f) (a .syndromes .now) (l .j) (l .syndromes) _ (omega arith) (l .inv .2) y,
