@@ -1,0 +1,3 @@
+// A card and received frames as text.
+mod lines;
+mod text;
