@@ -1,3 +1,5 @@
 pub mod Writing
 pub mod Decimal
 pub mod LineParts
+pub mod Beyond
+pub mod HandedOut

@@ -7,7 +7,7 @@ use native.Mathlib.Numerals.{add-one}
 use native.Mathlib.Omega.{arith}
 use lib.ListN.{length, getD, take, drop, set, length-append}
 use lib.Seq.{sets, sets-eq, length-sets, take-suc, length-take-le}
-use Rattle.listing.specs.Promise.{Wrote}
+use Rattle.listing.specs.Written.{Wrote}
 
 pub sets-append : (l : List ℕ) (i : ℕ) (s t : List ℕ) → sets (sets l i s) (i + length s) t ≡ sets l i (s ++ t)
 sets-append l i [] t = ap (λ (n : ℕ). sets l n t) (add-zero i)

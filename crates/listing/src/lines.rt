@@ -9,7 +9,7 @@ ghost use Rattle.bits.specs.Digits.{bit};
 ghost use Rattle.card.specs.Refusals.{numberOf};
 ghost use Rattle.listing.specs.Text.{text, decimal, spaced};
 ghost use Rattle.listing.specs.Listing.{tooLongLine, refusedLine, cardLine, frameLine, frameLines, endLine};
-ghost use Rattle.listing.specs.Promise.{Wrote};
+ghost use Rattle.listing.specs.Written.{Wrote};
 use crate::text::number;
 use crate::text::numbered;
 use crate::text::word;

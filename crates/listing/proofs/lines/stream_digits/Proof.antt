@@ -8,7 +8,7 @@ use lib.ListN.{length}
 use Rattle.bits.specs.Sums.{upTo}
 use Rattle.bits.specs.Digits.{bit}
 use Rattle.listing.specs.Text.{decimal, spaced}
-use Rattle.listing.specs.Promise.{Wrote}
+use Rattle.listing.specs.Written.{Wrote}
 use Rattle.listing.proofs.LineParts.{digits-next, digits-length}
 use Rattle.listing.proofs.Writing.{wrote-nothing, wrote-as, wrote-both, wrote-length}
 use Rattle.listing.proofs.lines.stream_digits.Statement.{statement}
