@@ -3,3 +3,4 @@ pub mod Decimal
 pub mod LineParts
 pub mod Beyond
 pub mod HandedOut
+pub mod Listings

@@ -88,6 +88,10 @@ frames-next k time frames h =
 
 -- ---- lengths
 
+pub too-long-length : length tooLongLine ≡ 15
+unfolding text
+too-long-length = ap length (sym too-long-line)
+
 digits-grow : (frame i : ℕ) → length (spaced (map decimal (upTo (i + 1) (bit frame)))) ≡ length (spaced (map decimal (upTo i (bit frame)))) + 2
 unfolding text
 digits-grow frame i =
@@ -125,4 +129,35 @@ lines-length k time (f ∷ frames) h l =
       length-append (frameLine k time f) (frameLines k (suc time) frames),
       frame-length k time f h (omega arith),
       lines-length k (suc time) frames h (omega arith),
+    )
+
+pub end-length : (count : ℕ) → count < 100000 → length (endLine count) ≤ 10
+unfolding text
+end-length count h =
+    omega (
+      arith,
+      ap length (end-line count),
+      length-append (text "end " ++ decimal count) (text "\n"),
+      length-append (text "end ") (decimal count),
+      decimal-length 4 count h,
+    )
+
+pub card-length : (number k n m : ℕ) → number < 1000 → k < 10 → n < 10 → m < 100 → length (cardLine number k n m) ≤ 22
+unfolding text
+card-length number k n m hnumber hk hn hm =
+    let a = text "card " ++ decimal number in
+    let b = text " k " ++ decimal k in
+    let d = text " n " ++ decimal n in
+    let e = text " m " ++ decimal m in
+    omega (
+      arith,
+      ap length (card-line number k n m),
+      length-append (((a ++ b) ++ d) ++ e) (text "\n"),
+      length-append ((a ++ b) ++ d) e,
+      length-append (a ++ b) d,
+      length-append a b,
+      decimal-length 2 number hnumber,
+      decimal-length 0 k hk,
+      decimal-length 0 n hn,
+      decimal-length 1 m hm,
     )

@@ -31,7 +31,7 @@ pub fn too_long(output: &mut [u8]) -> usize
 // The number has up to three digits, the place up to twenty.
 pub fn refused(output: &mut [u8], refusal: Refusal, place: usize) -> usize
     requires { ⌜ 36 ≤ length (now output) ⌝ }
-    ensures { λ r. ⌜ Wrote (now (output .entry)) 0 (refusedLine (numberOf refusal) place) (now (output .exit)) r ⌝ }
+    ensures { λ r. ⌜ Wrote (now (output .entry)) 0 (refusedLine (numberOf refusal) place) (now (output .exit)) r × (r ≤ 36) ⌝ }
 {
     let published = size(card::refusal_number(refusal));
     let after_number = numbered(output, 0, b"refused ", published);

@@ -60,10 +60,15 @@ returns : tie.Need-returns
 unfolding text
 returns c =
     let start = c .before .before .before .before .before .before .before .before .before .before .before .before .before .before .before .before .before .before in
-    wrote-as
-    (refused-line (c .before .before .before .before .before .before .before .before .before .before .before .before .before .before .before .size .result) (start .args .place)
-    ∙ ap (λ (n : ℕ). refusedLine n (start .args .place)) (c .before .before .before .before .before .before .before .before .before .before .before .before .before .before .before .size .ensures ∙ c .before .before .before .before .before .before .before .before .before .before .before .before .before .before .before .before .refusal-number .ensures))
-    (wrote-both _ _ (wrote-both _ _ (c .before .before .before .before .before .before .before .before .before .before .before .before .numbered .ensures) (c .before .before .before .before .before .before .before .numbered2 .ensures)) (c .before .before .word .ensures))
+    let n = c .before .before .before .before .before .before .before .before .before .before .before .before .before .before .before .size in
+    let number = c .before .before .before .before .before .before .before .before .before .before .before .before .numbered in
+    let place = c .before .before .before .before .before .before .before .numbered2 in
+    let feed = c .before .before .word in (
+      wrote-as
+          (refused-line (n .result) (start .args .place) ∙ ap (λ (x : ℕ). refusedLine x (start .args .place)) (n .ensures ∙ c .before .before .before .before .before .before .before .before .before .before .before .before .before .before .before .before .refusal-number .ensures))
+          (wrote-both _ _ (wrote-both _ _ (number .ensures) (place .ensures)) (feed .ensures)),
+      omega (arith, decimal-length 2 (n .result) (omega (arith, n .ensures, c .before .before .before .before .before .before .before .before .before .before .before .before .before .before .before .before .refusal-number .ok)), decimal-length 19 (start .args .place) (omega (arith, start .fits .place)), number .ensures .end-is, place .ensures .end-is, feed .ensures .end-is),
+    )
 
 pub refused-spec : {M : Type 1} → statement M
 refused-spec =
