@@ -5,7 +5,7 @@ use mathlib.Core.Bool.{Bool, true, false, cond, _||_}
 use mathlib.Core.Logic.{⊎-elim}
 use mathlib.Core.List.{List, _++_}
 use native.Mathlib.Omega.{arith}
-use lib.ListN.{length, getD, take, drop, length-drop}
+use lib.ListN.{length, getD, take, drop, length-append, length-drop}
 use lib.Seq.{take-all, length-take-le, getD-take}
 use lib.Dec.{leb, ltb}
 use borrow.Author.Tests.{lt-ltb, le-ltb, le-leb}
@@ -125,3 +125,11 @@ lists {text = text} input output e w l o =
       within = l;
       by-the-front = λ whole q. front-decides whole ∙ ap listing (sym q);
     }
+
+-- the listing's bytes are within the output
+pub listed-within : {input output after : List ℕ} {count : ℕ} → Lists input output count after → count ≤ length after
+listed-within {input} {output} w =
+    omega (arith, w .count-is, ap length (w .text-is), length-append (listing input) (drop (length (listing input)) output))
+
+pub listed-length : {input output after : List ℕ} {count : ℕ} → Lists input output count after → count ≡ length (take count after)
+listed-length {after = after} {count} w = sym (length-take-le count after (listed-within w))
