@@ -179,22 +179,24 @@ struct card_answer reference_read_card(const uint8_t *bytes, size_t length, stru
 
 /* ---- The code and its checks ("The code", "Checks") ---- */
 
+/* An information error (b, i) is in the syndrome s(a, j) if g(i, j, a - b) is 1; the check is the sum of its
+ * syndromes, and touches the errors that are in an odd number of them. */
 struct touched reference_touched(const struct fields *card, int i, int q)
 {
     struct touched touched;
     memset(&touched, 0, sizeof touched);
-    for (int b = 0; b <= card->m; b++) {
-        for (int j = 1; j <= card->p; j++)
-            touched.error[b][card->k + j] = card->check[i][q][j][b];
-        for (int stream = 1; stream <= card->k; stream++) {
-            int sum = 0;
-            for (int j = 1; j <= card->p; j++)
-                for (int a = b; a <= card->m; a++)
-                    if (card->check[i][q][j][a])
-                        sum += card->g[stream][j][a - b];
-            touched.error[b][stream] = sum % 2;
+    for (int j = 1; j <= card->p; j++)
+        for (int a = 0; a <= card->m; a++) {
+            if (!card->check[i][q][j][a])
+                continue;
+            touched.error[a][card->k + j] = 1;
+            for (int stream = 1; stream <= card->k; stream++)
+                for (int b = 0; b <= a; b++)
+                    touched.error[b][stream] += card->g[stream][j][a - b];
         }
-    }
+    for (int b = 0; b <= card->m; b++)
+        for (int stream = 1; stream <= card->k; stream++)
+            touched.error[b][stream] %= 2;
     return touched;
 }
 
