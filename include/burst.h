@@ -17,10 +17,12 @@
  * to 1,163 bytes that you get with the probe. Both functions take the card's bytes at each call,
  * read them and test them; there is nothing to open, to keep or to close.
  *
- *     uint8_t sent[3 + 1], came[3];
- *     int32_t frames = burst_send(card, sizeof card, information, 3, sent, sizeof sent);
- *     if (frames < 0)
- *         refused(-frames);
+ *     uint8_t sent[3 + BURST_MOST_MEMORY], came[3];
+ *     int32_t count = burst_send(card, sizeof card, information, 3, sent, sizeof sent);
+ *     .. the frames travel, and some of their digits change on the way ..
+ *     count = burst_receive(card, sizeof card, sent, (size_t)count, came, sizeof came);
+ *     if (count < 0)
+ *         show_refusal(-count);
  *
  *
  * Frames
@@ -91,8 +93,8 @@
  * - Each call ends. It takes time in proportion to the frames, after the reading of the card.
  * - Of the C library only memcpy and memset are needed.
  *
- * These are not hopes: the answer and every output byte, for all inputs, are proved from the code in
- * crates/. What the proofs do not cover is your side: "What you owe", this header and the compilers.
+ * The answer and every byte of the output are proved, for every input, of the code in crates/. No proof
+ * covers the stack and the time (they are measured), the compilers, this header, or "What you owe".
  */
 #ifndef BURST_H
 #define BURST_H

@@ -4,6 +4,11 @@ compiler=${CC:-cc}
 built=target/tests
 mkdir -p "$built"
 
+if ! command -v "$compiler" >/dev/null; then
+    echo "no C compiler: '$compiler' is not there (Debian has one in gcc and libc6-dev)" >&2
+    exit 2
+fi
+
 warnings="-std=c11 -Wall -Wextra -Wpedantic"
 library=target/staticlib/libburst.a
 
