@@ -384,8 +384,8 @@ static void every_length_round(struct random *r, int turn)
     }
 }
 
-/* The largest card that can be: k 4, n 8, every mask standing, J 16. Its checks can't be orthogonal, so
- * it is refused; shorter ones of its shape are accepted in the other rounds. */
+/* A card of the most bytes that one within the limits can have: k 4, n 8, every mask standing, J 16. (Its random
+ * checks are refused; cards with fewer masks are accepted in the other rounds.) */
 static void longest_card_round(struct random *r)
 {
     struct fields fields;

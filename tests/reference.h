@@ -1,5 +1,6 @@
 /* The second opinion: link cards, sending and threshold receiving, written from document 01
- * (the project's scope) alone, by somebody who had not seen the library's code.
+ * (the project's scope), before its author looked at the library's code. Where the document leaves a point
+ * open, the project's DESIGN.md had been read, so on those points it is not a second reading.
  *
  * It is made to be read, not to be fast. A digit is an int that is 0 or 1, a sum of digits is a
  * sum with one `% 2` at its end, and a stream keeps every frame from time 0 on: no masks, no
