@@ -9,6 +9,10 @@ fn number(n: u64) {
     io::print_decimal(libc::STDOUT_FILENO, n);
 }
 
+pub(crate) fn too_long() {
+    text(b"input too long\n");
+}
+
 // Where a record is cut short or of another kind.
 pub(crate) fn bad_record() {
     text(b"bad record\n");

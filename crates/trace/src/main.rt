@@ -20,7 +20,12 @@ fn stated_length(input: &[u8]) -> usize {
 fn trace(input: &[u8]) {
     let start = bits::at_most(2, input.len());
     let rest = &input[start..];
-    let length = bits::at_most(stated_length(input), rest.len());
+    let stated = stated_length(input);
+    if 2048 < stated {
+        lines::too_long();
+        return;
+    }
+    let length = bits::at_most(stated, rest.len());
     let card = &rest[..length];
     let receiver = decoder::open(card);
     let verdict = receiver.verdict;
@@ -38,7 +43,7 @@ fn main() {
     let mut space = [0u8; ROOM];
     let length = io::read_full(libc::STDIN_FILENO, &mut space);
     if ROOM <= length {
-        lines::text(b"input too long\n");
+        lines::too_long();
         return;
     }
     trace(&space[..length]);

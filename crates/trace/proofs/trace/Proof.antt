@@ -21,6 +21,12 @@ part-rest-end c = search needs
 stated-length-requires : tie.Need-stated-length-requires
 stated-length-requires c κs = search needs
 
+too-long-requires : tie.Need-too-long-requires
+too-long-requires c κs = search needs
+
+returns : tie.Need-returns
+returns c = search needs
+
 at-most-requires-2 : tie.Need-at-most-requires-2
 at-most-requires-2 c κs = search needs
 
@@ -60,11 +66,11 @@ part-all-end c = search needs
 all-requires : tie.Need-all-requires
 all-requires c κs = search needs
 
-returns : tie.Need-returns
-returns c = search needs
-
 returns-2 : tie.Need-returns-2
 returns-2 c = search needs
+
+returns-3 : tie.Need-returns-3
+returns-3 c = search needs
 
 pub trace-spec : {M : Type 1} → statement M
 trace-spec =
@@ -75,6 +81,8 @@ trace-spec =
     part-rest-start
     part-rest-end
     stated-length-requires
+    too-long-requires
+    returns
     at-most-requires-2
     slice-aggregate-card
     open-requires
@@ -88,5 +96,5 @@ trace-spec =
     part-all-start
     part-all-end
     all-requires
-    returns
-    returns-2)
+    returns-2
+    returns-3)
