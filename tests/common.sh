@@ -19,6 +19,13 @@ build_library() {
     fi
 }
 
+# The same for a program.
+build_program() {
+    if [ ! -f "target/bin/$1" ] || [ -n "$(find crates crates.txt -newer "target/bin/$1" -print -quit)" ]; then
+        rt check "$1"
+    fi
+}
+
 # The sanitizers' options, if the compiler has them and what it builds with them runs.
 sanitizers() {
     local options="-fsanitize=address,undefined -fno-sanitize-recover=all" probe
