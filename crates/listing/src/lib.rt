@@ -134,6 +134,7 @@ pub fn list(input: &[u8], output: &mut [u8; LONGEST_LISTING]) -> usize
 {
     let length = stated_length(input);
     let rest = after(input, 2);
+    let card = front(rest, length);
     let frames = after(rest, length);
     if LONGEST_CARD < length {
         return lines::too_long(output);
@@ -141,5 +142,5 @@ pub fn list(input: &[u8], output: &mut [u8; LONGEST_LISTING]) -> usize
     if MOST_FRAMES < frames.len() {
         return lines::too_long(output);
     }
-    list_parts(front(rest, length), frames, output)
+    list_parts(card, frames, output)
 }
