@@ -5,3 +5,4 @@ pub mod Room
 pub mod Beyond
 pub mod HandedOut
 pub mod Listings
+pub mod Example
