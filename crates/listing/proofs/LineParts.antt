@@ -1,11 +1,11 @@
 -- The lines of the listing, put together from the parts that are written, and their lengths.
-use Prim.Native.Nat.{ℕ, zero, suc, _+_, _*_, _^_, _≤_, _<_}
+use Prim.Native.Nat.{ℕ, zero, suc, _+_, _*_, _≤_, _<_}
 use mathlib.Core.Path.{_≡_, refl, sym, ap, _∙_}
 use mathlib.Core.List.{List, [], _∷_, _++_, map, append-nil, append-assoc}
-use native.Mathlib.Nat.{add-zero, add-suc}
+use native.Mathlib.Nat.{add-zero}
 use native.Mathlib.Numerals.{add-one}
 use native.Mathlib.Omega.{arith}
-use lib.ListN.{length, getD, take, length-append, length-map}
+use lib.ListN.{length, getD, take, length-append}
 use lib.Seq.{take-suc, length-take-le}
 use Rattle.bits.specs.Sums.{upTo}
 use Rattle.bits.specs.Digits.{bit}
@@ -87,10 +87,6 @@ frames-next k time frames h =
     ∙ ap (λ t. frameLines k 0 (take time frames) ++ frameLine k t (getD frames time 0)) e)
 
 -- ---- lengths
-
-pub too-long-length : length tooLongLine ≡ 15
-unfolding text
-too-long-length = ap length (sym too-long-line)
 
 digits-grow : (frame i : ℕ) → length (spaced (map decimal (upTo (i + 1) (bit frame)))) ≡ length (spaced (map decimal (upTo i (bit frame)))) + 2
 unfolding text

@@ -7,7 +7,7 @@ use mathlib.Core.List.{List, _++_}
 use native.Mathlib.Omega.{arith}
 use lib.ListN.{length, getD, take, drop, length-append, length-drop}
 use lib.Seq.{take-all, length-take-le, getD-take}
-use lib.Dec.{leb, ltb}
+use lib.Dec.{ltb}
 use borrow.Author.Tests.{lt-ltb, le-ltb, le-leb}
 use Rattle.bits.specs.Digits.{anyBeyond}
 use Rattle.bits.proofs.Cases.{le-or-lt}
@@ -17,9 +17,9 @@ use Rattle.card.specs.declared.Card.{Card}
 use Rattle.decoder.specs.Rule.{decoded}
 use Rattle.listing.specs.Listing.{statedLength, cardBytes, frameBytes, tooLong, tooLongLine, refusedLine, cardLine, frameLines, endLine, firstBeyond, listingOf, listingUnder, listing}
 use Rattle.listing.specs.Promise.{Lists}
-use Rattle.listing.specs.Written.{Wrote}
-use Rattle.listing.proofs.Beyond.{beyond-some, beyond-none}
-use Rattle.listing.proofs.Writing.{wrote-whole}
+use Rattle.listing.specs.Written.{WroteWhole}
+use Rattle.listing.proofs.Beyond.{beyond-some}
+use Rattle.listing.proofs.Writing.{wrote-front}
 
 -- ---- the input's length
 
@@ -115,14 +115,14 @@ front-decides whole =
 
 -- ---- the promise, from what was written
 
-pub lists : {after text : List ℕ} {r : ℕ} (input output : List ℕ) → listing input ≡ text → Wrote output 0 text after r → r ≤ 458784 → 458784 ≤ length output
-    → Lists input output r after
+pub lists : {after text : List ℕ} {r most : ℕ} (input output : List ℕ) → listing input ≡ text → WroteWhole most output text after r → most ≤ 458784
+    → 458784 ≤ length output → Lists input output r after
 lists {text = text} input output e w l o =
-    let fits : length text ≤ length output = omega (arith, w .end-is) in
+    let fits : length text ≤ length output = omega (arith, w .wrote .end-is, w .within) in
     record {
-      count-is = omega (arith, w .end-is, ap length e);
-      text-is = wrote-whole w fits ∙ ap (λ s. s ++ drop (length s) output) (sym e);
-      within = l;
+      count-is = omega (arith, w .wrote .end-is, ap length e);
+      text-is = wrote-front (w .wrote) fits ∙ ap (λ s. s ++ drop (length s) output) (sym e);
+      within = omega (arith, w .within);
       by-the-front = λ whole q. front-decides whole ∙ ap listing (sym q);
     }
 

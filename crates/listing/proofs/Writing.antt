@@ -7,7 +7,7 @@ use native.Mathlib.Numerals.{add-one}
 use native.Mathlib.Omega.{arith}
 use lib.ListN.{length, getD, take, drop, set, length-append}
 use lib.Seq.{sets, sets-eq, length-sets, take-suc, length-take-le}
-use Rattle.listing.specs.Written.{Wrote}
+use Rattle.listing.specs.Written.{Wrote, WroteWhole}
 
 pub sets-append : (l : List ℕ) (i : ℕ) (s t : List ℕ) → sets (sets l i s) (i + length s) t ≡ sets l i (s ++ t)
 sets-append l i [] t = ap (λ (n : ℕ). sets l n t) (add-zero i)
@@ -40,10 +40,14 @@ pub wrote-length : {output after : List ℕ} {at r : ℕ} {s : List ℕ} → Wro
 wrote-length {output} {at = at} {s = s} w = ap length (w .after-is) ∙ length-sets output at s
 
 -- text that was written from the front on, in an output that has room for it
-pub wrote-whole : {output after : List ℕ} {r : ℕ} {s : List ℕ} → Wrote output 0 s after r → length s ≤ length output
+pub wrote-front : {output after : List ℕ} {r : ℕ} {s : List ℕ} → Wrote output 0 s after r → length s ≤ length output
     → after ≡ s ++ drop (length s) output
-wrote-whole {output} {s = s} w h =
+wrote-front {output} {s = s} w h =
     w .after-is ∙ sets-eq s output 0 (omega arith) ∙ ap (λ (n : ℕ). s ++ drop n output) (zero-add (length s))
+
+pub whole-as : {output after : List ℕ} {r least most : ℕ} {s t : List ℕ} → s ≡ t → least ≤ most → WroteWhole least output s after r
+    → WroteWhole most output t after r
+whole-as e l w = record { wrote = wrote-as e (w .wrote); within = omega (arith, w .within) }
 
 -- a word of which a loop has copied the first i bytes
 module _ (output : List ℕ) (at : ℕ) (word : List ℕ) (i : ℕ) where

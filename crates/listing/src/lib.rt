@@ -7,16 +7,27 @@ ghost use mathlib.Core.Bool.{false};
 ghost use Prim.Native.Nat.{_+_, _≤_};
 ghost use lib.ListN.{length, take, drop};
 ghost use Rattle.bits.specs.Digits.{anyBeyond};
-ghost use Rattle.card.specs.Guarantees.{Guarantees};
 ghost use Rattle.card.specs.Outcome.Outcome.{accepted};
 ghost use Rattle.card.specs.Reading.{readCard};
 ghost use Rattle.decoder.specs.Rule.{decoded};
+ghost use Rattle.burst.specs.Claims.{Admitted};
 ghost use Rattle.listing.specs.Listing.{statedLength, firstBeyond, listingOf, listingUnder};
 ghost use Rattle.listing.specs.Promise.{Lists};
-ghost use Rattle.listing.specs.Written.{Wrote};
+ghost use Rattle.listing.specs.Written.{WroteWhole, HandsOut, ReadAs};
 use card::Card;
 use card::Refusal;
 use card::Verdict;
+
+const LONGEST_CARD: usize = 2048;
+
+const MOST_FRAMES: usize = 32768;
+
+// The longest input that is listed has 2 bytes of length, the longest card and the most frames. One byte more decides that an input is too long.
+pub const LONGEST_INPUT: usize = 2 + 2048 + 32768;
+
+// The longest listing has a first line of 22 bytes (`card 255 k 4 n 8 m 31`), a line of 14 for each of the most frames (a time of five digits
+// and four streams) and a last line of 10 (`end 32768`).
+pub const LONGEST_LISTING: usize = 22 + 14 * 32768 + 10;
 
 fn size(x: u8) -> usize
     ensures { λ r. ⌜ r ≡ x ⌝ }
@@ -71,31 +82,31 @@ fn first_beyond(frames: &[u8], n: usize) -> usize
     time
 }
 
-// The frames handed out under an accepted card, at the front of the buffer.
+// The frames handed out for a burst that meets no refusal, at the front of the buffer: the count of them.
 fn receive(card: &[u8], frames: &[u8], buffer: &mut [u8]) -> usize
-    requires { ⌜ (readCard (now card) .outcome ≡ accepted) × (anyBeyond (readCard (now card) .card .k + readCard (now card) .card .p) (now frames) ≡ false) × (length (now frames) ≤ 32768) × (length (now frames) ≤ length (now buffer)) ⌝ }
-    ensures { λ r. ⌜ (r ≡ length (decoded (readCard (now (card .entry)) .card) (now (frames .entry)))) × (take r (now (buffer .exit)) ≡ decoded (readCard (now (card .entry)) .card) (now (frames .entry))) ⌝ }
+    requires { ⌜ Admitted (now card) (now frames) (now buffer) ⌝ }
+    ensures { λ r. ⌜ HandsOut (decoded (readCard (now (card .entry)) .card) (now (frames .entry))) (now (buffer .exit)) r ⌝ }
 {
     burst::receive::burst_receive(card, frames, buffer) as usize
 }
 
 // The listing of frames within their streams: the card's line, a line per frame handed out, and the count of these lines.
 fn list_received(card: Card, bytes: &[u8], frames: &[u8], output: &mut [u8]) -> usize
-    requires { ⌜ Guarantees card × (readCard (now bytes) .outcome ≡ accepted) × (card ≡ readCard (now bytes) .card) × (anyBeyond (card .k + card .p) (now frames) ≡ false) × (length (now frames) ≤ 32768) × (458784 ≤ length (now output)) ⌝ }
-    ensures { λ r. ⌜ Wrote (now (output .entry)) 0 (listingOf card (decoded card (now (frames .entry)))) (now (output .exit)) r × (r ≤ 458784) ⌝ }
+    requires { ⌜ ReadAs (now bytes) card × (anyBeyond (card .k + card .p) (now frames) ≡ false) × (length (now frames) ≤ 32768) × (458784 ≤ length (now output)) ⌝ }
+    ensures { λ r. ⌜ WroteWhole 458784 (now (output .entry)) (listingOf card (decoded card (now (frames .entry)))) (now (output .exit)) r ⌝ }
 {
     let k = card.k;
-    let mut buffer = [0u8; 32768];
+    let mut buffer = [0u8; MOST_FRAMES];
     let count = receive(bytes, frames, &mut buffer);
     let after_card = lines::card_line(output, card.number, k, k + card.p, card.m);
     let after_frames = lines::frame_lines(output, after_card, k, &buffer[..count]);
     lines::end_line(output, after_frames, count)
 }
 
-// The listing under an accepted card.
+// The listing under an accepted card. Every frame is looked at before a line is written.
 fn list_frames(card: Card, bytes: &[u8], frames: &[u8], output: &mut [u8]) -> usize
-    requires { ⌜ Guarantees card × (readCard (now bytes) .outcome ≡ accepted) × (card ≡ readCard (now bytes) .card) × (length (now frames) ≤ 32768) × (458784 ≤ length (now output)) ⌝ }
-    ensures { λ r. ⌜ Wrote (now (output .entry)) 0 (listingUnder accepted card (now (frames .entry))) (now (output .exit)) r × (r ≤ 458784) ⌝ }
+    requires { ⌜ ReadAs (now bytes) card × (length (now frames) ≤ 32768) × (458784 ≤ length (now output)) ⌝ }
+    ensures { λ r. ⌜ WroteWhole 458784 (now (output .entry)) (listingUnder accepted card (now (frames .entry))) (now (output .exit)) r ⌝ }
 {
     let time = first_beyond(frames, card.k + card.p);
     if time < frames.len() {
@@ -104,10 +115,10 @@ fn list_frames(card: Card, bytes: &[u8], frames: &[u8], output: &mut [u8]) -> us
     list_received(card, bytes, frames, output)
 }
 
-// The listing of a card and frames.
-fn list_card(bytes: &[u8], frames: &[u8], output: &mut [u8]) -> usize
+// The listing of a card's bytes and frames.
+fn list_parts(bytes: &[u8], frames: &[u8], output: &mut [u8]) -> usize
     requires { ⌜ (length (now frames) ≤ 32768) × (458784 ≤ length (now output)) ⌝ }
-    ensures { λ r. ⌜ Wrote (now (output .entry)) 0 (listingUnder (readCard (now (bytes .entry)) .outcome) (readCard (now (bytes .entry)) .card) (now (frames .entry))) (now (output .exit)) r × (r ≤ 458784) ⌝ }
+    ensures { λ r. ⌜ WroteWhole 458784 (now (output .entry)) (listingUnder (readCard (now (bytes .entry)) .outcome) (readCard (now (bytes .entry)) .card) (now (frames .entry))) (now (output .exit)) r ⌝ }
 {
     let read = card::read_card(bytes);
     let verdict = read.verdict;
@@ -117,19 +128,19 @@ fn list_card(bytes: &[u8], frames: &[u8], output: &mut [u8]) -> usize
     }
 }
 
-// The listing of an input, into the front of the output: the count of its bytes. The longest has a first line of 22 bytes, 32,768 lines of 14
-// (a time of five digits, four streams) and a last line of 10, so that every listing has room.
-pub fn list(input: &[u8], output: &mut [u8; 458784]) -> usize
+// The listing of an input, at the front of the output: the count of its bytes. No call runs out of room.
+pub fn list(input: &[u8], output: &mut [u8; LONGEST_LISTING]) -> usize
     ensures { λ r. ⌜ Lists (now (input .entry)) (now (output .entry)) r (now (output .exit)) ⌝ }
 {
     let length = stated_length(input);
     let rest = after(input, 2);
+    let card = front(rest, length);
     let frames = after(rest, length);
-    if 2048 < length {
+    if LONGEST_CARD < length {
         return lines::too_long(output);
     }
-    if 32768 < frames.len() {
+    if MOST_FRAMES < frames.len() {
         return lines::too_long(output);
     }
-    list_card(front(rest, length), frames, output)
+    list_parts(card, frames, output)
 }

@@ -9,21 +9,16 @@ ghost use Rattle.bits.specs.Digits.{bit};
 ghost use Rattle.card.specs.Refusals.{numberOf};
 ghost use Rattle.listing.specs.Text.{text, decimal, spaced};
 ghost use Rattle.listing.specs.Listing.{tooLongLine, refusedLine, cardLine, frameLine, frameLines, endLine};
-ghost use Rattle.listing.specs.Written.{Wrote};
+ghost use Rattle.listing.specs.Written.{Wrote, WroteWhole};
+use crate::size;
 use crate::text::number;
 use crate::text::numbered;
 use crate::text::word;
 use card::Refusal;
 
-fn size(x: u8) -> usize
-    ensures { λ r. ⌜ r ≡ x ⌝ }
-{
-    x as usize
-}
-
 pub fn too_long(output: &mut [u8]) -> usize
     requires { ⌜ 15 ≤ length (now output) ⌝ }
-    ensures { λ r. ⌜ Wrote (now (output .entry)) 0 tooLongLine (now (output .exit)) r ⌝ }
+    ensures { λ r. ⌜ WroteWhole 15 (now (output .entry)) tooLongLine (now (output .exit)) r ⌝ }
 {
     word(output, 0, b"input too long\n")
 }
@@ -31,7 +26,7 @@ pub fn too_long(output: &mut [u8]) -> usize
 // The number has up to three digits, the place up to twenty.
 pub fn refused(output: &mut [u8], refusal: Refusal, place: usize) -> usize
     requires { ⌜ 36 ≤ length (now output) ⌝ }
-    ensures { λ r. ⌜ Wrote (now (output .entry)) 0 (refusedLine (numberOf refusal) place) (now (output .exit)) r × (r ≤ 36) ⌝ }
+    ensures { λ r. ⌜ WroteWhole 36 (now (output .entry)) (refusedLine (numberOf refusal) place) (now (output .exit)) r ⌝ }
 {
     let published = size(card::refusal_number(refusal));
     let after_number = numbered(output, 0, b"refused ", published);

@@ -1,14 +1,11 @@
 use Prim.Native.Nat.{_-_}
 use mathlib.Core.Path.{sym, ap, _∙_}
-use mathlib.Core.List.{List}
 use native.Mathlib.Omega.{arith}
 use lib.ListN.{length, take, drop, length-drop, drop-of-length-le}
 use lib.Seq.{take-all, take-nil, drop-length}
 use borrow.Author.Needs.{needs}
 use Rattle.listing.proofs.after.Statement.{statement}
 use Rattle.listing.proofs.after.Tie as tie
-use Rattle.listing.proofs.after.Reads as reads
-use Rattle.listing.proofs.after.Lts as lts
 
 sub-result : tie.Need-sub-result
 sub-result c = search needs

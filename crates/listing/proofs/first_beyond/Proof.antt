@@ -7,9 +7,6 @@ use Rattle.listing.specs.Listing.{firstBeyond}
 use Rattle.listing.proofs.Beyond.{beyond-here, beyond-later, beyond-nowhere}
 use Rattle.listing.proofs.first_beyond.Statement.{statement}
 use Rattle.listing.proofs.first_beyond.Tie as tie
-use Rattle.listing.proofs.first_beyond.Reads as reads
-use Rattle.listing.proofs.first_beyond.Lts as lts
-use Rattle.bits.proofs.beyond.Reads as beyond-reads
 
 abbrev Inv-loop : tie.InvT-loop
 Inv-loop frames n time₀ time = (time ≤ length frames) × (firstBeyond n frames ≡ time + firstBeyond n (drop time frames))

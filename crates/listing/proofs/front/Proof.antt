@@ -4,8 +4,6 @@ use lib.Seq.{take-all, length-take-le}
 use borrow.Author.Needs.{needs}
 use Rattle.listing.proofs.front.Statement.{statement}
 use Rattle.listing.proofs.front.Tie as tie
-use Rattle.listing.proofs.front.Reads as reads
-use Rattle.listing.proofs.front.Lts as lts
 
 slice-aggregate-result : tie.Need-slice-aggregate-result
 slice-aggregate-result c = sym (length-take-le (c .before .before .args .count) (c .before .before .args .bytes .now) (omega arith))

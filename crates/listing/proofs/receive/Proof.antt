@@ -1,7 +1,6 @@
-use Prim.Native.Nat.{ℕ, _≤_}
-use mathlib.Core.Path.{_≡_, sym, ap, subst, _∙_}
+use mathlib.Core.Path.{_≡_, sym, ap, subst}
 use native.Mathlib.Omega.{arith}
-use lib.ListN.{length, take}
+use lib.ListN.{length}
 use lib.IntN.{ℤ, pos, natAbs}
 use lib.Signed.{nonNeg}
 use lib.Dec.{T}
@@ -9,15 +8,11 @@ use mir.Syntax.{w32, w64}
 use mir.Val.{Fits, toZ, ofZ}
 use Rattle.card.specs.Reading.{readCard}
 use Rattle.decoder.specs.Rule.{decoded}
-use Rattle.decoder.proofs.Streams.{decoded-length}
 use Rattle.burst.proofs.Answers.{answer-is}
-use Rattle.listing.proofs.HandedOut.{answer-count, frames-in-front}
+use Rattle.listing.proofs.HandedOut.{count-most, answer-count, hands-out}
 use borrow.Author.Needs.{needs}
 use Rattle.listing.proofs.receive.Statement.{statement}
 use Rattle.listing.proofs.receive.Tie as tie
-use Rattle.listing.proofs.receive.Reads as reads
-use Rattle.listing.proofs.receive.Lts as lts
-use Rattle.burst.proofs.receive.burst_receive.Reads as burst-receive-reads
 
 burst-receive-requires : tie.Need-burst-receive-requires
 burst-receive-requires c κs = search needs
@@ -28,9 +23,10 @@ cast-result c =
     let a = start .args in
     let burst = c .before .before .burst-receive in
     let d = decoded (readCard (a .card .now) .card) (a .frames .now) in
-    let few : length d ≤ 32768 = omega (arith, decoded-length (readCard (a .card .now) .card) (a .frames .now), start .pre .2) in
-    let e : toZ w32 (ofZ w32 (burst .result)) ≡ pos (length d) = answer-is (burst .result) (burst .ok) (answer-count (a .card .now) (a .frames .now) (a .buffer .now) (start .pre .0) (start .pre .1) (start .pre .2) (start .pre .3) (burst .ensures .0)) in
-    subst (λ (z : ℤ). T (nonNeg z) × Fits w64 (natAbs z)) (sym e) (tt, record { fits = omega arith })
+    let count = answer-count (a .card .now) (a .frames .now) (a .buffer .now) (start .pre) (burst .ensures .0) in
+    let most = count-most (a .card .now) (a .frames .now) (a .buffer .now) (start .pre) in
+    let e : toZ w32 (ofZ w32 (burst .result)) ≡ pos (length d) = answer-is (burst .result) (burst .ok) count in
+    subst (λ (z : ℤ). T (nonNeg z) × Fits w64 (natAbs z)) (sym e) (tt, record { fits = omega (arith, most) })
 
 same-length : tie.Need-same-length
 same-length c = search needs
@@ -40,9 +36,8 @@ returns c =
     let start = c .before .before .before .before .before .before .before in
     let a = start .args in
     let burst = c .before .before .burst-receive in
-    let d = decoded (readCard (a .card .now) .card) (a .frames .now) in
-    let e : natAbs (toZ w32 (ofZ w32 (burst .result))) ≡ length d = ap natAbs (answer-is (burst .result) (burst .ok) (answer-count (a .card .now) (a .frames .now) (a .buffer .now) (start .pre .0) (start .pre .1) (start .pre .2) (start .pre .3) (burst .ensures .0))) in
-    (e, ap (λ n. take n (burst .last .1 .1 .0)) e ∙ frames-in-front (a .card .now) (a .frames .now) (a .buffer .now) (start .pre .0) (start .pre .1) (start .pre .2) (start .pre .3) (burst .ensures .0))
+    let count = answer-count (a .card .now) (a .frames .now) (a .buffer .now) (start .pre) (burst .ensures .0) in
+    hands-out (a .card .now) (a .frames .now) (a .buffer .now) (start .pre) (burst .ensures .0) (ap natAbs (answer-is (burst .result) (burst .ok) count))
 
 pub receive-spec : {M : Type 1} → statement M
 receive-spec = tie.close (tie.spec burst-receive-requires cast-result same-length returns)

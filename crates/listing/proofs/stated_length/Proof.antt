@@ -5,9 +5,6 @@ use Rattle.listing.specs.Listing.{statedLength}
 use borrow.Author.Needs.{needs}
 use Rattle.listing.proofs.stated_length.Statement.{statement}
 use Rattle.listing.proofs.stated_length.Tie as tie
-use Rattle.listing.proofs.stated_length.Reads as reads
-use Rattle.listing.proofs.stated_length.Lts as lts
-use Rattle.listing.proofs.size.Reads as size-reads
 
 returns : tie.Need-returns
 unfolding statedLength

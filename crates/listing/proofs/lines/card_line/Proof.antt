@@ -1,9 +1,8 @@
-use Prim.Native.Nat.{ℕ, _≤_, _<_}
-use mathlib.Core.Path.{_≡_, ap, _∙_}
-use mathlib.Core.List.{List, _++_}
+-- Each part of the line ends by a place that its numbers bound.
+use Prim.Native.Nat.{ℕ}
+use mathlib.Core.Path.{ap, _∙_}
 use native.Mathlib.Omega.{arith}
-use lib.ListN.{length}
-use Rattle.listing.specs.Text.{text, decimal}
+use Rattle.listing.specs.Text.{text}
 use Rattle.listing.specs.Listing.{cardLine}
 use Rattle.listing.proofs.Decimal.{decimal-length}
 use Rattle.listing.proofs.LineParts.{card-line}
@@ -11,11 +10,6 @@ use Rattle.listing.proofs.Writing.{wrote-as, wrote-both}
 use borrow.Author.Needs.{needs}
 use Rattle.listing.proofs.lines.card_line.Statement.{statement}
 use Rattle.listing.proofs.lines.card_line.Tie as tie
-use Rattle.listing.proofs.lines.card_line.Reads as reads
-use Rattle.listing.proofs.lines.card_line.Lts as lts
-use Rattle.listing.proofs.lines.size.Reads as size-reads
-use Rattle.listing.proofs.text.numbered.Reads as numbered-reads
-use Rattle.listing.proofs.text.word.Reads as word-reads
 
 slice-aggregate-numbered : tie.Need-slice-aggregate-numbered
 slice-aggregate-numbered c = search needs
@@ -27,7 +21,11 @@ numbered-requires : tie.Need-numbered-requires
 numbered-requires c κs =
     let start = c .before .before .before .before in
     let card = c .size in
-    omega (arith, decimal-length 2 (card .result) (omega (arith, card .ensures, start .fits .card)), start .pre .3)
+    omega (
+      arith,
+      start .pre .3,
+      decimal-length 2 (card .result) (omega (arith, card .ensures, start .fits .card)),
+    )
 
 slice-aggregate-numbered-2 : tie.Need-slice-aggregate-numbered-2
 slice-aggregate-numbered-2 c = search needs
@@ -36,7 +34,15 @@ numbered-requires-2 : tie.Need-numbered-requires-2
 numbered-requires-2 c κs =
     let start = c .before .before .before .before .before .before .before .before .before in
     let card = c .before .before .before .before .before .size in
-    omega (arith, decimal-length 2 (card .result) (omega (arith, card .ensures, start .fits .card)), start .pre .3, decimal-length 0 (start .args .k) (omega (arith, start .pre .0)), c .before .before .before .before .numbered .ensures .end-is, c .before .before .before .before .numbered .kept .0)
+    let card-end = c .before .before .before .before .numbered in
+    omega (
+      arith,
+      start .pre .3,
+      decimal-length 2 (card .result) (omega (arith, card .ensures, start .fits .card)),
+      decimal-length 0 (start .args .k) (omega (arith, start .pre .0)),
+      card-end .ensures .end-is,
+      card-end .kept .0,
+    )
 
 slice-aggregate-numbered-3 : tie.Need-slice-aggregate-numbered-3
 slice-aggregate-numbered-3 c = search needs
@@ -45,7 +51,19 @@ numbered-requires-3 : tie.Need-numbered-requires-3
 numbered-requires-3 c κs =
     let start = c .before .before .before .before .before .before .before .before .before .before .before .before .before .before in
     let card = c .before .before .before .before .before .before .before .before .before .before .size in
-    omega (arith, decimal-length 2 (card .result) (omega (arith, card .ensures, start .fits .card)), start .pre .3, decimal-length 0 (start .args .k) (omega (arith, start .pre .0)), decimal-length 0 (start .args .n) (omega (arith, start .pre .1)), c .before .before .before .before .before .before .before .before .before .numbered .ensures .end-is, c .before .before .before .before .before .before .before .before .before .numbered .kept .0, c .before .before .before .before .numbered2 .ensures .end-is, c .before .before .before .before .numbered2 .kept .0)
+    let card-end = c .before .before .before .before .before .before .before .before .before .numbered in
+    let k-end = c .before .before .before .before .numbered2 in
+    omega (
+      arith,
+      start .pre .3,
+      decimal-length 2 (card .result) (omega (arith, card .ensures, start .fits .card)),
+      decimal-length 0 (start .args .k) (omega (arith, start .pre .0)),
+      decimal-length 0 (start .args .n) (omega (arith, start .pre .1)),
+      card-end .ensures .end-is,
+      card-end .kept .0,
+      k-end .ensures .end-is,
+      k-end .kept .0,
+    )
 
 slice-aggregate-numbered-4 : tie.Need-slice-aggregate-numbered-4
 slice-aggregate-numbered-4 c = search needs
@@ -54,7 +72,23 @@ numbered-requires-4 : tie.Need-numbered-requires-4
 numbered-requires-4 c κs =
     let start = c .before .before .before .before .before .before .before .before .before .before .before .before .before .before .before .before .before .before .before in
     let card = c .before .before .before .before .before .before .before .before .before .before .before .before .before .before .before .size in
-    omega (arith, decimal-length 2 (card .result) (omega (arith, card .ensures, start .fits .card)), start .pre .3, decimal-length 0 (start .args .k) (omega (arith, start .pre .0)), decimal-length 0 (start .args .n) (omega (arith, start .pre .1)), decimal-length 1 (start .args .m) (omega (arith, start .pre .2)), c .before .before .before .before .before .before .before .before .before .before .before .before .before .before .numbered .ensures .end-is, c .before .before .before .before .before .before .before .before .before .before .before .before .before .before .numbered .kept .0, c .before .before .before .before .before .before .before .before .before .numbered2 .ensures .end-is, c .before .before .before .before .before .before .before .before .before .numbered2 .kept .0, c .before .before .before .before .numbered3 .ensures .end-is, c .before .before .before .before .numbered3 .kept .0)
+    let card-end = c .before .before .before .before .before .before .before .before .before .before .before .before .before .before .numbered in
+    let k-end = c .before .before .before .before .before .before .before .before .before .numbered2 in
+    let n-end = c .before .before .before .before .numbered3 in
+    omega (
+      arith,
+      start .pre .3,
+      decimal-length 2 (card .result) (omega (arith, card .ensures, start .fits .card)),
+      decimal-length 0 (start .args .k) (omega (arith, start .pre .0)),
+      decimal-length 0 (start .args .n) (omega (arith, start .pre .1)),
+      decimal-length 1 (start .args .m) (omega (arith, start .pre .2)),
+      card-end .ensures .end-is,
+      card-end .kept .0,
+      k-end .ensures .end-is,
+      k-end .kept .0,
+      n-end .ensures .end-is,
+      n-end .kept .0,
+    )
 
 slice-aggregate-word : tie.Need-slice-aggregate-word
 slice-aggregate-word c = search needs
@@ -63,7 +97,26 @@ word-requires : tie.Need-word-requires
 word-requires c κs =
     let start = c .before .before .before .before .before .before .before .before .before .before .before .before .before .before .before .before .before .before .before .before .before .before .before .before in
     let card = c .before .before .before .before .before .before .before .before .before .before .before .before .before .before .before .before .before .before .before .before .size in
-    omega (arith, decimal-length 2 (card .result) (omega (arith, card .ensures, start .fits .card)), start .pre .3, decimal-length 0 (start .args .k) (omega (arith, start .pre .0)), decimal-length 0 (start .args .n) (omega (arith, start .pre .1)), decimal-length 1 (start .args .m) (omega (arith, start .pre .2)), c .before .before .before .before .before .before .before .before .before .before .before .before .before .before .before .before .before .before .before .numbered .ensures .end-is, c .before .before .before .before .before .before .before .before .before .before .before .before .before .before .before .before .before .before .before .numbered .kept .0, c .before .before .before .before .before .before .before .before .before .before .before .before .before .before .numbered2 .ensures .end-is, c .before .before .before .before .before .before .before .before .before .before .before .before .before .before .numbered2 .kept .0, c .before .before .before .before .before .before .before .before .before .numbered3 .ensures .end-is, c .before .before .before .before .before .before .before .before .before .numbered3 .kept .0, c .before .before .before .before .numbered4 .ensures .end-is, c .before .before .before .before .numbered4 .kept .0)
+    let card-end = c .before .before .before .before .before .before .before .before .before .before .before .before .before .before .before .before .before .before .before .numbered in
+    let k-end = c .before .before .before .before .before .before .before .before .before .before .before .before .before .before .numbered2 in
+    let n-end = c .before .before .before .before .before .before .before .before .before .numbered3 in
+    let m-end = c .before .before .before .before .numbered4 in
+    omega (
+      arith,
+      start .pre .3,
+      decimal-length 2 (card .result) (omega (arith, card .ensures, start .fits .card)),
+      decimal-length 0 (start .args .k) (omega (arith, start .pre .0)),
+      decimal-length 0 (start .args .n) (omega (arith, start .pre .1)),
+      decimal-length 1 (start .args .m) (omega (arith, start .pre .2)),
+      card-end .ensures .end-is,
+      card-end .kept .0,
+      k-end .ensures .end-is,
+      k-end .kept .0,
+      n-end .ensures .end-is,
+      n-end .kept .0,
+      m-end .ensures .end-is,
+      m-end .kept .0,
+    )
 
 same-length : tie.Need-same-length
 same-length c = search needs
@@ -73,10 +126,12 @@ unfolding text
 returns c =
     let a = c .before .before .before .before .before .before .before .before .before .before .before .before .before .before .before .before .before .before .before .before .before .before .before .before .before .before .before .args in
     let card = c .before .before .before .before .before .before .before .before .before .before .before .before .before .before .before .before .before .before .before .before .before .before .before .size in
+    let card-end = c .before .before .before .before .before .before .before .before .before .before .before .before .before .before .before .before .before .before .before .before .before .before .numbered .ensures in
+    let k-end = c .before .before .before .before .before .before .before .before .before .before .before .before .before .before .before .before .before .numbered2 .ensures in
+    let n-end = c .before .before .before .before .before .before .before .before .before .before .before .before .numbered3 .ensures in
+    let m-end = c .before .before .before .before .before .before .before .numbered4 .ensures in
     wrote-as (card-line (card .result) (a .k) (a .n) (a .m) ∙ ap (λ (x : ℕ). cardLine x (a .k) (a .n) (a .m)) (card .ensures))
-    (wrote-both _ _
-    (wrote-both _ _ (wrote-both _ _ (wrote-both _ _ (c .before .before .before .before .before .before .before .before .before .before .before .before .before .before .before .before .before .before .before .before .before .before .numbered .ensures) (c .before .before .before .before .before .before .before .before .before .before .before .before .before .before .before .before .before .numbered2 .ensures)) (c .before .before .before .before .before .before .before .before .before .before .before .before .numbered3 .ensures)) (c .before .before .before .before .before .before .before .numbered4 .ensures))
-    (c .before .before .word .ensures))
+    (wrote-both _ _ (wrote-both _ _ (wrote-both _ _ (wrote-both _ _ card-end k-end) n-end) m-end) (c .before .before .word .ensures))
 
 pub card-line-spec : {M : Type 1} → statement M
 card-line-spec =

@@ -1,17 +1,11 @@
-use Prim.Native.Nat.{_≤_}
 use native.Mathlib.Omega.{arith}
-use lib.ListN.{length}
-use Rattle.listing.specs.Text.{text, decimal}
+use Rattle.listing.specs.Text.{text}
 use Rattle.listing.proofs.Decimal.{decimal-length}
 use Rattle.listing.proofs.LineParts.{end-line}
 use Rattle.listing.proofs.Writing.{wrote-as, wrote-both}
 use borrow.Author.Needs.{needs}
 use Rattle.listing.proofs.lines.end_line.Statement.{statement}
 use Rattle.listing.proofs.lines.end_line.Tie as tie
-use Rattle.listing.proofs.lines.end_line.Reads as reads
-use Rattle.listing.proofs.lines.end_line.Lts as lts
-use Rattle.listing.proofs.text.numbered.Reads as numbered-reads
-use Rattle.listing.proofs.text.word.Reads as word-reads
 
 slice-aggregate-numbered : tie.Need-slice-aggregate-numbered
 slice-aggregate-numbered c = search needs

@@ -1,18 +1,11 @@
-use Prim.Native.Nat.{ℕ, _≤_, _<_}
-use mathlib.Core.List.{List, _++_}
 use native.Mathlib.Omega.{arith}
-use Rattle.listing.specs.Text.{text, decimal}
+use Rattle.listing.specs.Text.{text}
 use Rattle.listing.proofs.Decimal.{decimal-length}
 use Rattle.listing.proofs.LineParts.{frame-line, digits-length}
 use Rattle.listing.proofs.Writing.{wrote-as, wrote-both}
 use borrow.Author.Needs.{needs}
 use Rattle.listing.proofs.lines.frame_line.Statement.{statement}
 use Rattle.listing.proofs.lines.frame_line.Tie as tie
-use Rattle.listing.proofs.lines.frame_line.Reads as reads
-use Rattle.listing.proofs.lines.frame_line.Lts as lts
-use Rattle.listing.proofs.lines.stream_digits.Reads as stream-digits-reads
-use Rattle.listing.proofs.text.number.Reads as number-reads
-use Rattle.listing.proofs.text.word.Reads as word-reads
 
 number-requires : tie.Need-number-requires
 number-requires c κs =

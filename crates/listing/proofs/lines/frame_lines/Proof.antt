@@ -1,7 +1,6 @@
 -- The lines of the frames passed stand in the output from `at` on.
-use Prim.Native.Nat.{_+_, _-_, _*_, _≤_}
-use mathlib.Core.Path.{_≡_, refl, ap, _∙_}
-use mathlib.Core.List.{List}
+use Prim.Native.Nat.{_-_, _≤_}
+use mathlib.Core.Path.{_≡_, ap}
 use native.Mathlib.Omega.{arith}
 use lib.ListN.{length, take}
 use lib.Seq.{take-all, length-take-le}
@@ -11,9 +10,6 @@ use Rattle.listing.proofs.LineParts.{frames-next, lines-length}
 use Rattle.listing.proofs.Writing.{wrote-nothing, wrote-as, wrote-both, wrote-length}
 use Rattle.listing.proofs.lines.frame_lines.Statement.{statement}
 use Rattle.listing.proofs.lines.frame_lines.Tie as tie
-use Rattle.listing.proofs.lines.frame_lines.Reads as reads
-use Rattle.listing.proofs.lines.frame_lines.Lts as lts
-use Rattle.listing.proofs.lines.frame_line.Reads as frame-line-reads
 
 abbrev Inv-loop : tie.InvT-loop
 Inv-loop output₀ at k frames end₀ time₀ output end time = (time ≤ length frames) × Wrote output₀ at (frameLines k 0 (take time frames)) output end

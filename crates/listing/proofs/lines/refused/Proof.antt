@@ -1,9 +1,8 @@
-use Prim.Native.Nat.{ℕ, _≤_, _<_}
-use mathlib.Core.Path.{_≡_, ap, _∙_}
-use mathlib.Core.List.{List, _++_}
+-- The number is a byte, the place a machine word.
+use Prim.Native.Nat.{ℕ}
+use mathlib.Core.Path.{ap, _∙_}
 use native.Mathlib.Omega.{arith}
-use lib.ListN.{length}
-use Rattle.listing.specs.Text.{text, decimal}
+use Rattle.listing.specs.Text.{text}
 use Rattle.listing.specs.Listing.{refusedLine}
 use Rattle.listing.proofs.Decimal.{decimal-length}
 use Rattle.listing.proofs.LineParts.{refused-line}
@@ -11,12 +10,6 @@ use Rattle.listing.proofs.Writing.{wrote-as, wrote-both}
 use borrow.Author.Needs.{needs}
 use Rattle.listing.proofs.lines.refused.Statement.{statement}
 use Rattle.listing.proofs.lines.refused.Tie as tie
-use Rattle.listing.proofs.lines.refused.Reads as reads
-use Rattle.listing.proofs.lines.refused.Lts as lts
-use Rattle.card.proofs.refusal_number.Reads as refusal-number-reads
-use Rattle.listing.proofs.lines.size.Reads as size-reads
-use Rattle.listing.proofs.text.numbered.Reads as numbered-reads
-use Rattle.listing.proofs.text.word.Reads as word-reads
 
 refusal-number-requires : tie.Need-refusal-number-requires
 refusal-number-requires c κs = search needs
@@ -30,7 +23,12 @@ slice-aggregate-numbered c = search needs
 numbered-requires : tie.Need-numbered-requires
 numbered-requires c κs =
     let n = c .before .before .size in
-    omega (arith, decimal-length 2 (n .result) (omega (arith, n .ensures, c .before .before .before .refusal-number .ok)))
+    let start = c .before .before .before .before .before in
+    omega (
+      arith,
+      start .pre,
+      decimal-length 2 (n .result) (omega (arith, n .ensures, c .before .before .before .refusal-number .ok)),
+    )
 
 slice-aggregate-numbered-2 : tie.Need-slice-aggregate-numbered-2
 slice-aggregate-numbered-2 c = search needs
@@ -39,8 +37,15 @@ numbered-requires-2 : tie.Need-numbered-requires-2
 numbered-requires-2 c κs =
     let n = c .before .before .before .before .before .before .before .size in
     let start = c .before .before .before .before .before .before .before .before .before .before in
-    let number = c .before .before .before .before .numbered in
-    omega (arith, decimal-length 2 (n .result) (omega (arith, n .ensures, c .before .before .before .before .before .before .before .before .refusal-number .ok)), decimal-length 19 (start .args .place) (omega (arith, start .fits .place)), number .ensures .end-is, number .kept .0, start .pre)
+    let number-end = c .before .before .before .before .numbered in
+    omega (
+      arith,
+      start .pre,
+      decimal-length 2 (n .result) (omega (arith, n .ensures, c .before .before .before .before .before .before .before .before .refusal-number .ok)),
+      decimal-length 19 (start .args .place) (omega (arith, start .fits .place)),
+      number-end .ensures .end-is,
+      number-end .kept .0,
+    )
 
 slice-aggregate-word : tie.Need-slice-aggregate-word
 slice-aggregate-word c = search needs
@@ -49,9 +54,18 @@ word-requires : tie.Need-word-requires
 word-requires c κs =
     let n = c .before .before .before .before .before .before .before .before .before .before .before .before .size in
     let start = c .before .before .before .before .before .before .before .before .before .before .before .before .before .before .before in
-    let number = c .before .before .before .before .before .before .before .before .before .numbered in
-    let place = c .before .before .before .before .numbered2 in
-    omega (arith, decimal-length 2 (n .result) (omega (arith, n .ensures, c .before .before .before .before .before .before .before .before .before .before .before .before .before .refusal-number .ok)), decimal-length 19 (start .args .place) (omega (arith, start .fits .place)), number .ensures .end-is, number .kept .0, place .ensures .end-is, place .kept .0, start .pre)
+    let number-end = c .before .before .before .before .before .before .before .before .before .numbered in
+    let place-end = c .before .before .before .before .numbered2 in
+    omega (
+      arith,
+      start .pre,
+      decimal-length 2 (n .result) (omega (arith, n .ensures, c .before .before .before .before .before .before .before .before .before .before .before .before .before .refusal-number .ok)),
+      decimal-length 19 (start .args .place) (omega (arith, start .fits .place)),
+      number-end .ensures .end-is,
+      number-end .kept .0,
+      place-end .ensures .end-is,
+      place-end .kept .0,
+    )
 
 same-length : tie.Need-same-length
 same-length c = search needs
@@ -61,14 +75,25 @@ unfolding text
 returns c =
     let start = c .before .before .before .before .before .before .before .before .before .before .before .before .before .before .before .before .before .before in
     let n = c .before .before .before .before .before .before .before .before .before .before .before .before .before .before .before .size in
+    let published = c .before .before .before .before .before .before .before .before .before .before .before .before .before .before .before .before .refusal-number in
     let number = c .before .before .before .before .before .before .before .before .before .before .before .before .numbered in
     let place = c .before .before .before .before .before .before .before .numbered2 in
-    let feed = c .before .before .word in (
-      wrote-as
-          (refused-line (n .result) (start .args .place) ∙ ap (λ (x : ℕ). refusedLine x (start .args .place)) (n .ensures ∙ c .before .before .before .before .before .before .before .before .before .before .before .before .before .before .before .before .refusal-number .ensures))
-          (wrote-both _ _ (wrote-both _ _ (number .ensures) (place .ensures)) (feed .ensures)),
-      omega (arith, decimal-length 2 (n .result) (omega (arith, n .ensures, c .before .before .before .before .before .before .before .before .before .before .before .before .before .before .before .before .refusal-number .ok)), decimal-length 19 (start .args .place) (omega (arith, start .fits .place)), number .ensures .end-is, place .ensures .end-is, feed .ensures .end-is),
-    )
+    let feed = c .before .before .word in
+    record {
+      wrote =
+          wrote-as
+          (refused-line (n .result) (start .args .place) ∙ ap (λ (x : ℕ). refusedLine x (start .args .place)) (n .ensures ∙ published .ensures))
+          (wrote-both _ _ (wrote-both _ _ (number .ensures) (place .ensures)) (feed .ensures));
+      within =
+          omega (
+            arith,
+            decimal-length 2 (n .result) (omega (arith, n .ensures, published .ok)),
+            decimal-length 19 (start .args .place) (omega (arith, start .fits .place)),
+            number .ensures .end-is,
+            place .ensures .end-is,
+            feed .ensures .end-is,
+          );
+    }
 
 pub refused-spec : {M : Type 1} → statement M
 refused-spec =

@@ -3,9 +3,6 @@ use Rattle.bits.specs.Digits.{bit}
 use borrow.Author.Needs.{needs}
 use Rattle.listing.proofs.lines.stream.Statement.{statement}
 use Rattle.listing.proofs.lines.stream.Tie as tie
-use Rattle.listing.proofs.lines.stream.Reads as reads
-use Rattle.listing.proofs.lines.stream.Lts as lts
-use Rattle.bits.proofs.digit.Reads as digit-reads
 
 digit-requires : tie.Need-digit-requires
 digit-requires c κs = search needs

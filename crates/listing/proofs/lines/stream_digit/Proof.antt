@@ -8,10 +8,6 @@ use Rattle.listing.proofs.Writing.{wrote-as}
 use borrow.Author.Needs.{needs}
 use Rattle.listing.proofs.lines.stream_digit.Statement.{statement}
 use Rattle.listing.proofs.lines.stream_digit.Tie as tie
-use Rattle.listing.proofs.lines.stream_digit.Reads as reads
-use Rattle.listing.proofs.lines.stream_digit.Lts as lts
-use Rattle.listing.proofs.lines.stream.Reads as stream-reads
-use Rattle.listing.proofs.text.numbered.Reads as numbered-reads
 
 slice-aggregate-numbered : tie.Need-slice-aggregate-numbered
 slice-aggregate-numbered c = search needs

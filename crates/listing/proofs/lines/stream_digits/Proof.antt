@@ -1,10 +1,9 @@
 -- The digits of the streams passed stand in the output from `at` on.
-use Prim.Native.Nat.{_+_, _-_, _*_, _≤_}
-use mathlib.Core.Path.{_≡_, refl, ap, _∙_}
-use mathlib.Core.List.{List, map}
+use Prim.Native.Nat.{_-_, _≤_}
+use mathlib.Core.Path.{ap}
+use mathlib.Core.List.{map}
 use native.Mathlib.Nat.{le-antisymm}
 use native.Mathlib.Omega.{arith}
-use lib.ListN.{length}
 use Rattle.bits.specs.Sums.{upTo}
 use Rattle.bits.specs.Digits.{bit}
 use Rattle.listing.specs.Text.{decimal, spaced}
@@ -13,9 +12,6 @@ use Rattle.listing.proofs.LineParts.{digits-next, digits-length}
 use Rattle.listing.proofs.Writing.{wrote-nothing, wrote-as, wrote-both, wrote-length}
 use Rattle.listing.proofs.lines.stream_digits.Statement.{statement}
 use Rattle.listing.proofs.lines.stream_digits.Tie as tie
-use Rattle.listing.proofs.lines.stream_digits.Reads as reads
-use Rattle.listing.proofs.lines.stream_digits.Lts as lts
-use Rattle.listing.proofs.lines.stream_digit.Reads as stream-digit-reads
 
 abbrev Inv-loop : tie.InvT-loop
 Inv-loop output₀ at k frame end₀ i₀ output end i = (i ≤ k) × Wrote output₀ at (spaced (map decimal (upTo i (bit frame)))) output end

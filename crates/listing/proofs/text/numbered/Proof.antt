@@ -2,10 +2,6 @@ use Rattle.listing.proofs.Writing.{wrote-both}
 use borrow.Author.Needs.{needs}
 use Rattle.listing.proofs.text.numbered.Statement.{statement}
 use Rattle.listing.proofs.text.numbered.Tie as tie
-use Rattle.listing.proofs.text.numbered.Reads as reads
-use Rattle.listing.proofs.text.numbered.Lts as lts
-use Rattle.listing.proofs.text.number.Reads as number-reads
-use Rattle.listing.proofs.text.word.Reads as word-reads
 
 word-requires : tie.Need-word-requires
 word-requires c κs = search needs

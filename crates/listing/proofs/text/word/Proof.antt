@@ -1,14 +1,12 @@
 -- The bytes passed stand in the output from `at` on.
-use Prim.Native.Nat.{_+_, _-_, _≤_}
+use Prim.Native.Nat.{_-_, _≤_}
 use mathlib.Core.Path.{_≡_, refl, ap, _∙_}
 use native.Mathlib.Omega.{arith}
-use lib.ListN.{length, take, length-set}
+use lib.ListN.{length, take}
 use lib.Seq.{sets, length-sets, take-all}
 use Rattle.listing.proofs.Writing.{copied-next}
 use Rattle.listing.proofs.text.word.Statement.{statement}
 use Rattle.listing.proofs.text.word.Tie as tie
-use Rattle.listing.proofs.text.word.Reads as reads
-use Rattle.listing.proofs.text.word.Lts as lts
 
 abbrev Inv-loop : tie.InvT-loop
 Inv-loop output₀ at bytes i₀ output i = (i ≤ length bytes) × (output ≡ sets output₀ at (take i bytes))
