@@ -93,7 +93,7 @@ fn frame_line(output: &mut [u8], at: usize, k: usize, time: usize, frame: u8) ->
 
 // A line per frame, the times from 0 on.
 pub fn frame_lines(output: &mut [u8], at: usize, k: usize, frames: &[u8]) -> usize
-    requires { ⌜ (k ≤ 4) × (length (now frames) ≤ 100000) × (at + 14 * length (now frames) ≤ length (now output)) ⌝ }
+    requires { ⌜ (k ≤ 4) × (length (now frames) ≤ 32768) × (at + 14 * length (now frames) ≤ length (now output)) ⌝ }
     ensures { λ r. ⌜ Wrote (now (output .entry)) at (frameLines k 0 (now (frames .entry))) (now (output .exit)) r ⌝ }
 {
     let mut end = at;

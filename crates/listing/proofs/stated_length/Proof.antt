@@ -23,7 +23,7 @@ size-requires-2 : tie.Need-size-requires-2
 size-requires-2 c κs = search needs
 
 mul-result : tie.Need-mul-result
-mul-result c = omega (arith, c .size2 .ensures, c .before .shared-slice-known3 .given 1)
+mul-result c = omega (arith, c .size2 .ensures, c .before .shared-slice-known3 .given 0, c .before .shared-slice-known3 .given 1)
 
 add-result : tie.Need-add-result
 add-result c = omega (arith, c .size2 .ensures, c .before .shared-slice-known3 .given 1, c .before .before .size .ensures, c .before .shared-slice-known3 .given 0)
