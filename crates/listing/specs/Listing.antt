@@ -24,6 +24,7 @@ statedLength input = cond (leb 2 (length input)) (getD input 0 0 + getD input 1 
 unfoldable pub cardBytes : List ℕ → List ℕ
 cardBytes input = take (statedLength input) (drop 2 input)
 
+-- "then received frames to the end": what follows the card's stated length
 unfoldable pub frameBytes : List ℕ → List ℕ
 frameBytes input = drop (statedLength input) (drop 2 input)
 
@@ -33,6 +34,7 @@ tooLong input = ltb 2048 (statedLength input) || ltb 32768 (length (frameBytes i
 
 -- ---- the lines
 
+-- "only `input too long`"
 unfoldable pub tooLongLine : List ℕ
 tooLongLine = line (text "input") (text "too" ∷ text "long" ∷ [])
 
@@ -60,7 +62,7 @@ endLine count = line (text "end") (decimal count ∷ [])
 
 -- ---- the listing
 
--- the time of the first frame that has a digit at stream n or beyond
+-- the time of the first frame that has a digit at stream n or beyond; the count of the frames where there is none
 unfoldable pub firstBeyond : ℕ → List ℕ → ℕ
 firstBeyond n [] = 0
 firstBeyond n (frame ∷ frames) = cond (leb (2 ^ n) frame) 0 (suc (firstBeyond n frames))
@@ -70,7 +72,8 @@ unfoldable pub listingOf : Card → List ℕ → List ℕ
 listingOf c handedOut =
     cardLine (c .number) (c .k) (c .k + c .p) (c .m) ++ (frameLines (c .k) 0 handedOut ++ endLine (length handedOut))
 
--- "A refusal prints only `refused N at P`": the card's, or 11 of the first frame that has a digit beyond its streams
+-- "A refusal prints only `refused N at P`": the card's, or 11 of the first frame that has a digit beyond its streams. A receiver's other refusals
+-- are not met: there are no levels (12), no lent output (13), no card number with a frame (14) and fewer than 1,048,576 frames (15).
 unfoldable pub listingUnder : Outcome → Card → List ℕ → List ℕ
 listingUnder (refused number offset) c frames = refusedLine number offset
 listingUnder accepted c frames =

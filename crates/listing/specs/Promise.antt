@@ -11,7 +11,7 @@ pub record Lists (input output : List ℕ) (count : ℕ) (after : List ℕ) : Ty
   pub count-is : count ≡ length (listing input)
   -- .. which stand at the front of the output, and after them the output is as it was
   pub text-is : after ≡ listing input ++ drop (length (listing input)) output
-  -- they always have room
+  -- the output, of 458,784 bytes, always has room for them
   pub within : count ≤ 458784
   -- what follows the first 34,819 bytes of an input does not change its listing, so nobody needs to read further
   pub by-the-front : (whole : List ℕ) → input ≡ take 34819 whole → listing whole ≡ listing input

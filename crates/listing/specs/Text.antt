@@ -7,7 +7,7 @@ use mathlib.Core.Bool.{cond}
 use mathlib.Core.List.{List, [], _∷_, _++_}
 use lib.Dec.{ltb}
 
--- the bytes of a word
+-- the bytes of a word, its characters all below 128
 unfoldable pub text : String → List ℕ
 text none = []
 text (c then s) = code c ∷ text s
@@ -21,7 +21,7 @@ unfoldable pub decimalWithin : ℕ → ℕ → List ℕ
 decimalWithin zero n = glyph n ∷ []
 decimalWithin (suc places) n = cond (ltb n 10) (glyph n ∷ []) (decimalWithin places (n / 10) ++ (glyph (n % 10) ∷ []))
 
--- n in decimal, with no zeros in front: it has at most n digits behind the first
+-- n in decimal, with no zeros in front; it has at most n digits behind the first
 unfoldable pub decimal : ℕ → List ℕ
 decimal n = decimalWithin n n
 

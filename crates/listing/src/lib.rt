@@ -18,16 +18,17 @@ use card::Card;
 use card::Refusal;
 use card::Verdict;
 
+// The longest card and the most frames that are listed.
 const LONGEST_CARD: usize = 2048;
 
 const MOST_FRAMES: usize = 32768;
 
-// The longest input that is listed has 2 bytes of length, the longest card and the most frames. One byte more decides that an input is too long.
+// The longest input that is listed: two bytes of length, the longest card and the most frames.
 pub const LONGEST_INPUT: usize = 2 + 2048 + 32768;
 
-// The longest listing has a first line of 22 bytes (`card 255 k 4 n 8 m 31`), a line of 14 for each of the most frames (a time of five digits
-// and four streams) and a last line of 10 (`end 32768`).
-pub const LONGEST_LISTING: usize = 22 + 14 * 32768 + 10;
+// No listing is longer: the first line has at most 22 bytes (`card 255 k 4 n 8 m 31`), that of each frame at most 14 (a time of five digits,
+// four streams), the last one at most 10 (`end 32768`), and a refusal or `input too long` stands alone.
+pub const LISTING_ROOM: usize = 22 + 14 * 32768 + 10;
 
 fn size(x: u8) -> usize
     ensures { λ r. ⌜ r ≡ x ⌝ }
@@ -129,7 +130,7 @@ fn list_parts(bytes: &[u8], frames: &[u8], output: &mut [u8]) -> usize
 }
 
 // The listing of an input, at the front of the output: the count of its bytes. No call runs out of room.
-pub fn list(input: &[u8], output: &mut [u8; LONGEST_LISTING]) -> usize
+pub fn list(input: &[u8], output: &mut [u8; LISTING_ROOM]) -> usize
     ensures { λ r. ⌜ Lists (now (input .entry)) (now (output .entry)) r (now (output .exit)) ⌝ }
 {
     let length = stated_length(input);
