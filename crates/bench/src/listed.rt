@@ -2,8 +2,8 @@
 use crate::cards;
 use crate::lines;
 use crate::streams;
+use listing::LISTING_ROOM;
 use listing::LONGEST_INPUT;
-use listing::LONGEST_LISTING;
 ghost use mathlib.Core.Path.{_≡_};
 ghost use lib.ListN.{length};
 
@@ -90,7 +90,7 @@ fn put(whole: &mut [u8; ROOM], start: usize, bytes: &[u8]) -> usize
 }
 
 fn listed(name: &[u8], input: &[u8]) {
-    let mut output = [0u8; LONGEST_LISTING];
+    let mut output = [0u8; LISTING_ROOM];
     let count = listing::list(input, &mut output);
     lines::text(name);
     lines::text(b", listed:\n");
