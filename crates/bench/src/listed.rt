@@ -1,0 +1,108 @@
+// The cases of the listing: document 01, "The listing".
+use crate::cards;
+use crate::lines;
+use crate::streams;
+use listing::LISTING_ROOM;
+use listing::LONGEST_INPUT;
+ghost use mathlib.Core.Path.{_≡_};
+ghost use lib.ListN.{length};
+
+// One byte more than the longest input that is listed.
+const ROOM: usize = LONGEST_INPUT + 1;
+
+// A longer listing than this is shown by its last line.
+const SHOWN: usize = 100;
+
+// That line is `end 32767`, with its line feed.
+const LAST_LINE: usize = 10;
+
+pub(crate) fn cases() {
+    listed(b"the empty input", b"");
+    listed(b"an input of one byte", b"\x14");
+    input(b"P and no frames", 20, cards::p(), b"");
+    input(
+        b"the first 19 bytes of P, 20 stated",
+        20,
+        cards::cut(cards::p(), 19),
+        b"",
+    );
+    input(b"P, 2048 bytes stated", 2048, cards::p(), b"");
+    input(b"P, 2049 bytes stated", 2049, cards::p(), b"");
+    input(
+        b"P and the frames 3, 3, 3, 2",
+        20,
+        cards::p(),
+        b"\x03\x03\x03\x02",
+    );
+    input(
+        b"P and the frames 3, 3, 4, 2",
+        20,
+        cards::p(),
+        b"\x03\x03\x04\x02",
+    );
+    input(
+        b"k 4, n 8 and the frames 16, 2, 187, 240",
+        83,
+        streams::all_eight(),
+        b"\x10\x02\xbb\xf0",
+    );
+    let frames = [0u8; 32769];
+    input(
+        b"P and 32768 frames",
+        20,
+        cards::p(),
+        lines::front(&frames, 32768),
+    );
+    input(b"P and 32769 frames", 20, cards::p(), &frames);
+}
+
+// An input by its parts: the stated length of the card, the card, the frames.
+fn input(name: &[u8], stated: u16, draft: cards::Draft, frames: &[u8]) {
+    let mut whole = [0u8; ROOM];
+    let length = [(stated % 256) as u8, (stated / 256) as u8];
+    let after_length = put(&mut whole, 0, &length);
+    let bytes = draft.bytes;
+    let after_card = put(&mut whole, after_length, lines::front(&bytes, draft.len));
+    let end = put(&mut whole, after_card, frames);
+    listed(name, lines::front(&whole, end));
+}
+
+// One byte more, if there is room; where it ends.
+fn put_byte(whole: &mut [u8; ROOM], end: usize, byte: u8) -> usize
+    ensures { λ r. ⌜ length (now (whole .exit)) ≡ length (now (whole .entry)) ⌝ }
+{
+    if end < ROOM {
+        whole[end] = byte;
+        return end + 1;
+    }
+    end
+}
+
+// Some bytes more; where they end.
+fn put(whole: &mut [u8; ROOM], start: usize, bytes: &[u8]) -> usize
+    ensures { λ r. ⌜ length (now (whole .exit)) ≡ length (now (whole .entry)) ⌝ }
+{
+    let mut end = start;
+    for i in 0..bytes.len() {
+        end = put_byte(whole, end, bytes[i]);
+    }
+    end
+}
+
+fn listed(name: &[u8], input: &[u8]) {
+    let mut output = [0u8; LISTING_ROOM];
+    let count = listing::list(input, &mut output);
+    lines::text(name);
+    lines::text(b", listed:\n");
+    shown(&output[..count]);
+}
+
+fn shown(listing: &[u8]) {
+    let length = listing.len();
+    if SHOWN < length {
+        lines::text(b"..\n");
+        lines::text(&listing[length - LAST_LINE..]);
+    } else {
+        lines::text(listing);
+    }
+}
