@@ -10,31 +10,35 @@ pub(crate) fn number(n: u64) {
     io::print_decimal(STDOUT_FILENO, n);
 }
 
-fn verdict(v: card::Verdict) {
+pub(crate) fn refused(refusal: card::Refusal) {
+    text(b"refused ");
+    number(card::refusal_number(refusal) as u64);
+}
+
+pub(crate) fn verdict(v: card::Verdict) {
     match v {
         card::Verdict::Accepted => text(b"accepted"),
         card::Verdict::Refused { refusal, offset } => {
-            text(b"refused ");
-            number(card::refusal_number(refusal) as u64);
+            refused(refusal);
             text(b" at ");
             number(offset as u64);
         }
     }
 }
 
-// What reading the first bytes comes to.
-fn read(bytes: &[u8], len: usize) -> card::Verdict {
+// The first bytes, or all where there are fewer.
+pub(crate) fn front(bytes: &[u8], len: usize) -> &[u8] {
     let end = bits::at_most(len, bytes.len());
-    let found = card::read_card(&bytes[..end]);
-    found.verdict
+    &bytes[..end]
 }
 
 // What reading the card comes to, at the end of its line.
 pub(crate) fn outcome(draft: cards::Draft) {
     let bytes = draft.bytes;
-    let found = read(&bytes, draft.len);
+    let found = card::read_card(front(&bytes, draft.len));
     text(b": ");
-    verdict(found);
+    let v = found.verdict;
+    verdict(v);
     text(b"\n");
 }
 

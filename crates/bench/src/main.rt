@@ -1,9 +1,14 @@
 // The bench: the cases of document 01, "Cards on the bench". The starred ones are a theorem over the definitions; all of them run here
 // through the code, and the lines are held to `stdout`.
+mod bursts;
 mod cards;
+mod levels;
 mod lines;
 mod reading;
+mod receiving;
+mod sending;
 mod sixteen;
+mod streams;
 
 ghost use Rattle.bench.specs.Rows.{Rows};
 
@@ -15,4 +20,6 @@ fn starred_rows()
 fn main() {
     starred_rows();
     reading::cases();
+    sending::cases();
+    receiving::cases();
 }

@@ -1,0 +1,51 @@
+-- `bench::receiving::receive_each` is safe and ends. Assumes nothing.
+use Prim.Native.Nat.{_≤_, _-_}
+use mathlib.Core.Path.{_≡_}
+use lib.ListN.{length}
+use borrow.Author.Needs.{needs}
+use Rattle.bench.proofs.receiving.receive_each.Statement.{statement}
+use Rattle.bench.proofs.receiving.receive_each.Tie as tie
+use Rattle.bench.proofs.receiving.receive_each.Reads as reads
+use Rattle.bench.proofs.receiving.receive_each.Lts as lts
+use Rattle.bench.proofs.receiving.receive.Reads as receive-reads
+
+abbrev Inv-loop : tie.InvT-loop
+Inv-loop frames session₀ i₀ i-end session i = (i ≤ i-end) × (i-end ≡ length frames)
+
+abbrev μ-loop : tie.MeasureT-loop
+μ-loop frames session₀ i₀ i-end session i = i-end - i
+
+loop-holds : tie.Need-loop-holds Inv-loop μ-loop
+loop-holds c = search needs
+
+shared-slice-read-receive : tie.Need-shared-slice-read-receive Inv-loop μ-loop
+shared-slice-read-receive c = search needs
+
+receive-requires : tie.Need-receive-requires Inv-loop μ-loop
+receive-requires c κs = search needs
+
+add-i : tie.Need-add-i Inv-loop μ-loop
+add-i c = search needs
+
+loop-less : tie.Need-loop-less Inv-loop μ-loop
+loop-less c = search needs
+
+loop-again : tie.Need-loop-again Inv-loop μ-loop
+loop-again c = search needs
+
+returns : tie.Need-returns Inv-loop μ-loop
+returns c = search needs
+
+pub receive-each-spec : {M : Type 1} → statement M
+receive-each-spec =
+    tie.close
+    (tie.spec
+    Inv-loop
+    μ-loop
+    loop-holds
+    shared-slice-read-receive
+    receive-requires
+    add-i
+    loop-less
+    loop-again
+    returns)
