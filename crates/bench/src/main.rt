@@ -3,6 +3,7 @@
 mod bursts;
 mod cards;
 mod levels;
+mod limits;
 mod lines;
 mod reading;
 mod receiving;
@@ -22,4 +23,5 @@ fn main() {
     reading::cases();
     sending::cases();
     receiving::cases();
+    limits::cases();
 }
