@@ -10,10 +10,11 @@ use Rattle.decoder.specs.Rule.{syndrome, cleared, checkAt, votes, decide, decid
 use Rattle.decoder.specs.Calls.{answersBy}
 use Rattle.burst.specs.Outcome.{refusedOf, givenOf, underCard}
 use Rattle.burst.specs.Receiving.{receiveUnder, receiveOf}
+use Rattle.bench.specs.Cards.{checks}
 use Rattle.bench.specs.Rows.{Rows}
 
 pub rows : Rows
-unfolding sumBelow upTo back bit fromDigits anyBeyond generator digit parityAt withTail sentDigit sentFrame sent count checkMask syndrome cleared checkAt votes decide decideFrame decided corrected decoded answersBy refusedOf givenOf underCard receiveUnder receiveOf touchesInfo touchesBy store storeRows storeChecks storeStreams storeCounts cardOf byteField kField nField mapField wordAt maskField readHead standingMask readMasks readRows readGenerators otherError touchedBy clashes judge readCheck readChecks readStreams readFields readCard
+unfolding sumBelow upTo back bit fromDigits anyBeyond generator digit parityAt withTail sentDigit sentFrame sent count checkMask syndrome cleared checkAt votes decide decideFrame decided corrected decoded answersBy refusedOf givenOf underCard receiveUnder receiveOf touchesInfo touchesBy store storeRows storeChecks storeStreams storeCounts cardOf byteField kField nField mapField wordAt maskField readHead standingMask readMasks readRows readGenerators otherError touchedBy clashes judge readCheck readChecks readStreams readFields readCard checks
 rows =
     record {
       P-is-accepted = refl;

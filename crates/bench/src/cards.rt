@@ -5,13 +5,13 @@ pub(crate) const ROOM: usize = 1200;
 
 // A card is the first `len` of the bytes.
 pub(crate) struct Draft {
-    pub(crate) bytes: [u8; 1200],
+    pub(crate) bytes: [u8; ROOM],
     pub(crate) len: usize,
 }
 
 pub(crate) fn empty() -> Draft {
     Draft {
-        bytes: [0u8; 1200],
+        bytes: [0u8; ROOM],
         len: 0,
     }
 }
@@ -30,8 +30,8 @@ pub(crate) fn byte(mut draft: Draft, value: u8) -> Draft {
 pub(crate) fn mask(draft: Draft, m: u32) -> Draft {
     let one = byte(draft, (m % 256) as u8);
     let two = byte(one, (m / 256 % 256) as u8);
-    let three = byte(two, (m / 65536 % 256) as u8);
-    byte(three, (m / 16777216) as u8)
+    let three = byte(two, (m / 0x1_0000 % 256) as u8);
+    byte(three, (m / 0x100_0000) as u8)
 }
 
 // A check over one parity stream, whose bit the map is.
@@ -120,9 +120,9 @@ pub(crate) fn t(second: u32) -> Draft {
     check(check(byte(one, 2), 1), 4)
 }
 
-// P with m 31 and the terms 0 and 31: its generator, and its checks s0 and s31.
+// P with m 31, the generator with terms 0 and 31, and the checks s0 and s31.
 pub(crate) fn p_reaching_31() -> Draft {
-    let far: u32 = 2147483648;
+    let far: u32 = 0x8000_0000;
     let code = mask(of(b"\x00\x07\x1f\x01\x00"), far + 1);
     check(check(byte(code, 2), 1), far)
 }

@@ -1,5 +1,5 @@
-// The cases at the limit of 1,048,576 frames: the refusal 15 and its place in the orders. These lines are the last, since they are the only ones
-// that make a million calls.
+// The cases at the limit of 1,048,576 frames: the refusal 15 and its place in the orders. These lines come last: no others make a million
+// calls, and `rt try` gives up on them, so that with `limits::cases()` left out it still tries the rest.
 use crate::bursts;
 use crate::bursts::Call;
 use crate::cards;

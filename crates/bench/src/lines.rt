@@ -1,4 +1,4 @@
-// The lines that the bench writes.
+// The lines that the bench writes: what a case is, a colon, and what it came to.
 use crate::cards;
 use libc::STDOUT_FILENO;
 
@@ -32,17 +32,17 @@ pub(crate) fn front(bytes: &[u8], len: usize) -> &[u8] {
     &bytes[..end]
 }
 
-// What reading the card comes to, at the end of its line.
+// The end of a line: what reading the card comes to.
 pub(crate) fn outcome(draft: cards::Draft) {
     let bytes = draft.bytes;
-    let found = card::read_card(front(&bytes, draft.len));
+    let read = card::read_card(front(&bytes, draft.len));
+    let v = read.verdict;
     text(b": ");
-    let v = found.verdict;
     verdict(v);
     text(b"\n");
 }
 
-pub(crate) fn card(name: &[u8], draft: cards::Draft) {
+pub(crate) fn reading(name: &[u8], draft: cards::Draft) {
     text(name);
     outcome(draft);
 }

@@ -5,6 +5,7 @@ mod cards;
 mod levels;
 mod limits;
 mod lines;
+mod longest;
 mod reading;
 mod receiving;
 mod sending;

@@ -1,6 +1,6 @@
 // Digits of 32-bit words. Every function is total: beyond a word or a table there are zeros.
 ghost use mathlib.Core.Path.{_≡_};
-ghost use Prim.Native.Nat.{_/_, _%_, _^_, _≤_, min};
+ghost use Prim.Native.Nat.{_/_, _%_, _^_, _<_, _≤_, min};
 ghost use lib.ListN.{getD};
 ghost use lib.Dec.{leb};
 ghost use Rattle.bits.specs.Digits.{bit, dot, shiftUp, anyBeyond};
@@ -73,4 +73,18 @@ pub fn at_most(x: usize, most: usize) -> usize
     ensures { λ r. ⌜ r ≡ min x most ⌝ }
 {
     if x < most { x } else { most }
+}
+
+// A byte as a word.
+pub fn wide(x: u8) -> u32
+    ensures { λ r. ⌜ (r ≡ x) × (r < 256) ⌝ }
+{
+    x as u32
+}
+
+// A byte as a size.
+pub fn size(x: u8) -> usize
+    ensures { λ r. ⌜ (r ≡ x) × (r < 256) ⌝ }
+{
+    x as usize
 }

@@ -1,12 +1,10 @@
 -- The parity to come: what one frame more adds to it, and that it is the code's parity when its time has come.
-use Prim.Native.Nat.{ℕ, suc, _+_, _-_, _*_, _%_, _^_, _≤_, _<_}
+use Prim.Native.Nat.{ℕ, suc, _+_, _*_, _%_, _<_}
 use mathlib.Core.Path.{_≡_, sym, ap, ap₂, _∙_}
 use mathlib.Core.List.{List}
 use native.Mathlib.Nat.{add-suc, suc-add, zero-add, add-zero, mod-add-mod}
 use native.Mathlib.Omega.{arith}
-use lib.ListN.{getD}
 use Rattle.bits.specs.Sums.{sumBelow, back}
-use Rattle.bits.specs.Digits.{bit}
 use Rattle.bits.proofs.Sums.{sum-cong, sum-add, sum-none, sum-first, sum-cut}
 use Rattle.bits.proofs.Back.{back-in, back-out, back-suc}
 use Rattle.bits.proofs.Digits.{bit-high}

@@ -1,33 +1,33 @@
 -- The decision: with the frame of time t taken in, the registers decide the errors of time t - m as the rule does, and with these taken out they
 -- are ready for the frame of time t + 1.
 use Prim.Native.Nat.{ℕ, suc, _+_, _-_, _*_, _%_, _^_, _≤_, _<_}
-use mathlib.Core.Path.{_≡_, refl, sym, ap, ap₂, _∙_}
+use mathlib.Core.Path.{_≡_, sym, ap, ap₂, _∙_}
 use mathlib.Core.Bool.{cond}
 use mathlib.Core.Logic.{⊎-elim}
 use mathlib.Core.List.{List, [], _∷_, _++_}
-use native.Mathlib.Nat.{mod-eq-of-lt, add-mod-mod, mod-lt, add-zero}
+use native.Mathlib.Nat.{mod-eq-of-lt, add-mod-mod, mod-lt}
 use native.Mathlib.Omega.{arith}
 use lib.ListN.{length, getD}
-use lib.Dec.{leb, ltb}
+use lib.Dec.{ltb}
 use lib.Bits.{bitXor, xor-lt}
 use lib.Pow.{pow-pos}
 use borrow.Author.Tests.{lt-ltb, le-ltb, le-leb, lt-leb}
-use Rattle.bits.specs.Sums.{sumBelow, back}
+use Rattle.bits.specs.Sums.{sumBelow}
 use Rattle.bits.specs.Digits.{bit, dot}
 use Rattle.bits.proofs.Sums.{sum-same, sum-cong, sum-cut, sum-none}
 use Rattle.bits.proofs.Lists.{part-at}
-use Rattle.bits.proofs.Back.{back-in, back-out, back-suc}
+use Rattle.bits.proofs.Back.{back-in}
 use Rattle.bits.proofs.Cases.{le-or-lt}
-use Rattle.bits.proofs.Digits.{bit-lt, bit-high, bit-mod, bit-xor, bit-of-zero, from-digits-same, from-digits-bits}
+use Rattle.bits.proofs.Digits.{bit-lt, bit-mod, bit-xor, bit-of-zero, from-digits-same, from-digits-bits}
 use Rattle.card.specs.Code.{generator, digit}
 use Rattle.card.specs.Checks.{count, checkMask}
 use Rattle.card.specs.Guarantees.{Guarantees}
 use Rattle.card.specs.declared.Card.{Card}
 use Rattle.decoder.specs.Rule.{cleared, checkAt, votes, decide, decideFrame, decided, corrected}
 use Rattle.decoder.proofs.Streams.{decided-length, decided-at}
-use Rattle.decoder.proofs.Syndromes.{cleared-fed}
+use Rattle.decoder.proofs.Feedback.{cleared-fed}
 use Rattle.burst.specs.Registers.{generatorSums, checkBy, votesBy, majorityBy, decideBy, takenOut, Corrected}
-use Rattle.burst.specs.Held.{comingAt, syndromeHeld, Before, With}
+use Rattle.burst.specs.Held.{syndromeHeld, Before, With}
 use Rattle.burst.proofs.Coming.{generator-beyond}
 use Rattle.burst.proofs.Following.{sums-bit}
 use Rattle.burst.proofs.Voting.{decide-lt}

@@ -1,17 +1,17 @@
 -- A frame taken in: registers that held the stream before it hold the stream with it.
 use Prim.Native.Nat.{ℕ, suc, _+_, _-_, _*_, _/_, _%_, _^_, _≤_, _<_}
-use mathlib.Core.Path.{_≡_, refl, sym, ap, ap₂, _∙_}
+use mathlib.Core.Path.{_≡_, sym, ap, ap₂, _∙_}
 use mathlib.Core.Bool.{cond}
 use mathlib.Core.Logic.{⊎-elim}
 use mathlib.Core.List.{List}
 use native.Mathlib.Nat.{mod-lt, add-mod-mod, add-comm, lt-of-lt-of-le, eq-or-lt-of-le}
 use native.Mathlib.Omega.{arith}
-use lib.ListN.{length, getD}
+use lib.ListN.{getD}
 use lib.Bits.{bitXor}
-use lib.Dec.{leb, ltb}
+use lib.Dec.{leb}
 use lib.Pow.{pow-pos, pow-mono}
 use borrow.Author.Tests.{lt-ltb, le-ltb, le-leb, lt-leb}
-use Rattle.bits.specs.Sums.{sumBelow, back}
+use Rattle.bits.specs.Sums.{sumBelow}
 use Rattle.bits.specs.Digits.{bit, shiftUp}
 use Rattle.bits.proofs.Sums.{sum-same, sum-cut}
 use Rattle.bits.proofs.Lists.{upTo-at, part-at}
@@ -24,7 +24,7 @@ use Rattle.card.specs.Guarantees.{Guarantees}
 use Rattle.card.specs.declared.Card.{Card}
 use Rattle.decoder.specs.Rule.{syndrome, cleared, decided}
 use Rattle.decoder.proofs.Streams.{decided-length}
-use Rattle.decoder.proofs.Syndromes.{syndrome-lt, cleared-lt, cleared-new}
+use Rattle.decoder.proofs.Feedback.{syndrome-lt, cleared-lt, cleared-new}
 use Rattle.burst.specs.Registers.{generatorSum, generatorSums, parityWith, comingNext, syndromesNext, TakenIn}
 use Rattle.burst.specs.Held.{comingAt, syndromeHeld, Before, With}
 use Rattle.burst.proofs.Coming.{comingWith, coming-with, coming-now, coming-later}

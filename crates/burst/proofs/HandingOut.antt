@@ -14,8 +14,8 @@ use Rattle.bits.proofs.Lists.{part-at, part-length, part-step}
 use Rattle.card.specs.Guarantees.{Guarantees}
 use Rattle.card.specs.declared.Card.{Card}
 use Rattle.decoder.specs.Rule.{decided, corrected, decoded}
-use Rattle.burst.specs.Registers.{generatorSums, syndromesNext, written, TakenIn, takenOut, Corrected}
-use Rattle.burst.specs.Held.{Before, With, cardOf, Carried, HandedOut}
+use Rattle.burst.specs.Registers.{generatorSums, written, TakenIn, takenOut, Corrected}
+use Rattle.burst.specs.Held.{With, cardWith, Carried, HandedOut}
 use Rattle.burst.proofs.Voting.{decide-lt}
 use Rattle.burst.proofs.Following.{taken-in}
 use Rattle.burst.proofs.Waiting.{start}
@@ -42,7 +42,7 @@ pub hand-none : (sums counts checks frames coming syndromes output : List ℕ) (
 unfolding upTo
 hand-none sums counts checks frames coming syndromes output k p m number g G e B =
     let z : m - m ≡ 0 = omega arith in
-    let c = cardOf number k p m g counts checks in
+    let c = cardWith number k p m g counts checks in
     (B, sym (ap (λ n. written n (corrected c frames (decided c frames (length frames - m))) output) z))
 
 -- one frame more, and the frame m before it handed out
@@ -54,7 +54,7 @@ pub hand-more : (frames : List ℕ) (t v : ℕ) (output₀ : List ℕ) {sums cou
     → HandedOut sums counts checks k p m frames t coming₀ syndromes₀ output₀ coming syndromes output
     → HandedOut sums counts checks k p m frames (t + 1) coming₀ syndromes₀ output₀ coming' after (set output (t - m) v)
 hand-more frames t v output₀ {counts = counts} {checks = checks} {coming = coming} {syndromes = syndromes} {output = output} {coming' = coming'} {syndromes' = syndromes'} {after = after} {k = k} {p = p} {m = m} {errors = errors} hm ht ho T C q handed number g G e B =
-    let c = cardOf number k p m g counts checks in
+    let c = cardWith number k p m g counts checks in
     let both = handed number g G e B in
     let W : With c frames t coming' syndromes' = taken-in c G frames t (getD frames t 0) refl coming syndromes (both .0) (rw e at T) in
     let D : Corrected (generatorSums g) counts checks syndromes' k p after errors = rw e at C in
@@ -75,10 +75,10 @@ none-handed c frames output h =
 
 -- a whole burst, from registers of zeros
 pub all-handed : (sums counts checks generators frames output₀ output coming syndromes coming' syndromes' : List ℕ) (k p m number : ℕ)
-    → Guarantees (cardOf number k p m generators counts checks) → sums ≡ generatorSums generators
+    → Guarantees (cardWith number k p m generators counts checks) → sums ≡ generatorSums generators
     → Carried sums k p m frames 0 m (replicate 8 0) (replicate 8 0) coming syndromes
     → HandedOut sums counts checks k p m frames (length frames) coming syndromes output₀ coming' syndromes' output
-    → output ≡ decoded (cardOf number k p m generators counts checks) frames ++ drop (length frames - m) output₀
+    → output ≡ decoded (cardWith number k p m generators counts checks) frames ++ drop (length frames - m) output₀
 unfolding decoded
 all-handed sums counts checks generators frames output₀ output coming syndromes coming' syndromes' k p m number G e carried handed =
-    handed number generators G e (carried number generators counts checks G e (start (cardOf number k p m generators counts checks) frames)) .1
+    handed number generators G e (carried number generators counts checks G e (start (cardWith number k p m generators counts checks) frames)) .1

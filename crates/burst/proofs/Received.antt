@@ -2,8 +2,7 @@
 use Prim.Native.Nat.{ℕ, _+_, _-_, _≤_, _<_}
 use mathlib.Core.Path.{_≡_, refl, sym, ap, _∙_, subst}
 use mathlib.Core.Bool.{true, false}
-use mathlib.Core.List.{List, _++_}
-use native.Mathlib.Omega.{arith}
+use mathlib.Core.List.{List}
 use lib.ListN.{length, drop, take}
 use lib.Seq.{take-at}
 use lib.IntN.{ℤ, pos, negℤ}
@@ -20,8 +19,8 @@ use Rattle.decoder.proofs.Streams.{decoded-length}
 use Rattle.decoder.proofs.Theorem.{decoded-as-sent}
 use Rattle.burst.specs.Outcome.{BurstOutcome, outcome, refusedOf, givenOf, underCard}
 use Rattle.burst.specs.Receiving.{receiveUnder, receiveOf}
+use Rattle.burst.specs.Claims.{Admitted, CameOut, ComesOutAsSent}
 use Rattle.burst.proofs.Outcomes.{refused-is}
-use Rattle.burst.specs.Claims.{Admitted, SentAs, CameOut, ComesOutAsSent}
 
 module _ (c : Card) (input output : List ℕ) where
   pub receive-full : 1048576 < length input → receiveUnder c input output ≡ refusedOf 15 output

@@ -7,7 +7,7 @@ use native.Mathlib.Nat.{le-refl}
 use native.Mathlib.Numerals.{add-one}
 use native.Mathlib.Omega.{arith}
 use lib.ListN.{getD}
-use lib.Bits.{bitAnd, bitOr, bitXor, and-le-l, and-le-r, or-add-and}
+use lib.Bits.{bitOr, bitXor, and-le-l, and-le-r, or-add-and}
 use Rattle.bits.specs.Digits.{shiftUp}
 use Rattle.bits.proofs.Cases.{last-or-below}
 use Rattle.bits.proofs.Lists.{part-rest}

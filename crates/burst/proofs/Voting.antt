@@ -1,16 +1,16 @@
 -- Votes: the ones of words added up by exclusive or, checks as the digits of a word, and the places of the decided errors.
-use Prim.Native.Nat.{ℕ, suc, _+_, _*_, _/_, _%_, _^_, _≤_, _<_, zero-le}
+use Prim.Native.Nat.{ℕ, _+_, _*_, _/_, _%_, _^_, _<_, zero-le}
 use mathlib.Core.Bool.{cond}
-use borrow.Author.Tests.{le-ltb}
 use mathlib.Core.Path.{_≡_, sym, ap, ap₂, _∙_}
+use mathlib.Core.List.{List}
 use native.Mathlib.Nat.{mod-lt, zero-lt-suc}
 use native.Mathlib.Numerals.{add-one}
 use native.Mathlib.Omega.{arith}
-use mathlib.Core.List.{List}
 use lib.ListN.{getD}
 use lib.Bits.{bitAnd, bitXor, xor-lt}
 use lib.Dec.{ltb}
 use lib.Count.{ones, ones-step}
+use borrow.Author.Tests.{le-ltb}
 use Rattle.bits.specs.Sums.{sumBelow}
 use Rattle.bits.specs.Digits.{bit, dot, fromDigits, shiftUp}
 use Rattle.bits.proofs.Sums.{sum-mod, sum-cong, sum-add, sum-more, sum-none}

@@ -7,7 +7,6 @@ use mathlib.Core.List.{List}
 use native.Mathlib.Omega.{arith}
 use native.Mathlib.Numerals.{add-one}
 use lib.ListN.{length, getD, replicate}
-use lib.Dec.{leb, ltb}
 use borrow.Author.Tests.{lt-ltb, le-ltb, le-leb, lt-leb}
 use Rattle.bits.specs.Sums.{back}
 use Rattle.bits.specs.Digits.{bit}
@@ -18,7 +17,7 @@ use Rattle.bits.proofs.Digits.{bit-of-zero}
 use Rattle.card.specs.declared.Card.{Card}
 use Rattle.decoder.specs.Rule.{cleared, decided}
 use Rattle.burst.specs.Registers.{comingNext, syndromesNext, TakenIn}
-use Rattle.burst.specs.Held.{syndromeHeld, Before, With, cardOf, Carried}
+use Rattle.burst.specs.Held.{syndromeHeld, Before, With, cardWith, Carried}
 use Rattle.burst.proofs.Coming.{coming-start}
 use Rattle.burst.proofs.Following.{taken-in}
 
@@ -81,5 +80,5 @@ pub wait-more : (frames : List ℕ) (s t : ℕ) {sums coming₀ syndromes₀ com
     → Carried sums k p m frames s t coming₀ syndromes₀ coming syndromes
     → Carried sums k p m frames s (t + 1) coming₀ syndromes₀ coming' syndromes'
 wait-more frames s t {coming = coming} {syndromes = syndromes} {k = k} {p = p} {m = m} h T carried number g n checks G e B =
-    let c = cardOf number k p m g n checks in
+    let c = cardWith number k p m g n checks in
     rw add-one (waiting c frames t h (taken-in c G frames t (getD frames t 0) refl coming syndromes (carried number g n checks G e B) (rw e at T)))

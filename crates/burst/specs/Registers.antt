@@ -1,7 +1,7 @@
 -- The burst receiver by registers: what its functions compute, for tables and registers of every value. Nobody has to believe this file: the
 -- laws in proofs/ tie it to the rule on whole streams (`decoder`, `Rule`).
 -- Assumes nothing.
-use Prim.Native.Nat.{ℕ, _+_, _*_, _/_, _%_, _^_, _<_}
+use Prim.Native.Nat.{ℕ, _+_, _*_, _/_, _%_, _^_, _≤_, _<_}
 use mathlib.Core.Path.{_≡_}
 use mathlib.Core.Bool.{cond}
 use mathlib.Core.Logic.{_⊎_}
@@ -67,3 +67,10 @@ takenOut sums syndromes e j = bitXor (getD syndromes j 0) (getD sums (e * 8 + j)
 pub record Corrected (sums counts checks syndromes : List ℕ) (k p : ℕ) (after : List ℕ) (errors : ℕ) : Type 0 where
   pub errors-are : errors ≡ decideBy counts checks syndromes k p
   pub after-is : ((errors ≡ 0) × (after ≡ syndromes)) ⊎ (after ≡ written p (takenOut sums syndromes errors) syndromes)
+
+-- numbers that keep the loops within their tables and words: those of every accepted card
+pub record InTables (k p m : ℕ) (counts : List ℕ) : Type 0 where
+  pub k-most : k ≤ 4
+  pub n-most : k + p ≤ 8
+  pub m-most : m ≤ 31
+  pub J-most : (i : ℕ) → getD counts i 0 ≤ 16

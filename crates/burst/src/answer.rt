@@ -5,13 +5,13 @@ ghost use lib.IntN.{pos, negℤ};
 ghost use Rattle.card.specs.Refusals.{numberOf};
 use card::Refusal;
 
-pub fn refused(refusal: Refusal) -> i32
+pub(crate) fn refused(refusal: Refusal) -> i32
     ensures { λ r. ⌜ r ≡ negℤ (pos (numberOf refusal)) ⌝ }
 {
     -(card::refusal_number(refusal) as i32)
 }
 
-pub fn frames(count: usize) -> i32
+pub(crate) fn frames(count: usize) -> i32
     requires { ⌜ count ≤ 1048576 ⌝ }
     ensures { λ r. ⌜ r ≡ pos count ⌝ }
 {

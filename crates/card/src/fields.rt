@@ -89,13 +89,6 @@ pub(crate) fn n_field(bytes: &[u8], at: usize, stands: u32, k: u32) -> FieldRead
     }
 }
 
-// A byte as a wider number.
-fn wide(x: u8) -> u32
-    ensures { λ r. ⌜ (r ≡ x) × (r < 256) ⌝ }
-{
-    x as u32
-}
-
 // The generator map of so many bits, two bytes.
 pub(crate) fn map_field(bytes: &[u8], at: usize, count: usize) -> FieldRead
     requires { ⌜ (at ≤ length (now bytes)) × (count < 32) ⌝ }
@@ -104,7 +97,7 @@ pub(crate) fn map_field(bytes: &[u8], at: usize, count: usize) -> FieldRead
     if bytes.len() - at < 2 {
         return cut_short(bytes);
     }
-    let map = wide(bytes[at]) + wide(bytes[at + 1]) * 256;
+    let map = bits::wide(bytes[at]) + bits::wide(bytes[at + 1]) * 256;
     let beyond = map >> count;
     if beyond == 0 {
         return FieldRead::Value(map);
@@ -120,10 +113,10 @@ fn word_at(bytes: &[u8], at: usize) -> u32
     requires { ⌜ at + 4 ≤ length (now bytes) ⌝ }
     ensures { λ r. ⌜ r ≡ wordAt (now (bytes .entry)) at ⌝ }
 {
-    let a = wide(bytes[at]);
-    let b = wide(bytes[at + 1]);
-    let c = wide(bytes[at + 2]);
-    let d = wide(bytes[at + 3]);
+    let a = bits::wide(bytes[at]);
+    let b = bits::wide(bytes[at + 1]);
+    let c = bits::wide(bytes[at + 2]);
+    let d = bits::wide(bytes[at + 3]);
     a + b * 256 + c * 65536 + d * 16777216
 }
 

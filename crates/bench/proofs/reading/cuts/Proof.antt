@@ -10,15 +10,6 @@ Inv-loop len₀ len = len ≤ 20
 abbrev μ-loop : tie.MeasureT-loop
 μ-loop len₀ len = 20 - len
 
-slice-aggregate-card : tie.Need-slice-aggregate-card Inv-loop μ-loop
-slice-aggregate-card c = search needs
-
-empty-requires : tie.Need-empty-requires Inv-loop μ-loop
-empty-requires c κs = search needs
-
-card-requires : tie.Need-card-requires Inv-loop μ-loop
-card-requires c κs = search needs
-
 loop-holds : tie.Need-loop-holds Inv-loop μ-loop
 loop-holds c = search needs
 
@@ -43,9 +34,6 @@ cuts-spec =
     (tie.spec
     Inv-loop
     μ-loop
-    slice-aggregate-card
-    empty-requires
-    card-requires
     loop-holds
     cut-requires
     add-len

@@ -1,18 +1,13 @@
 -- Each way out of the call by what reading the card came to.
 use mathlib.Core.Path.{refl, ap, _∙_}
 use lib.IntN.{ℤ}
+use borrow.Author.Needs.{needs}
 use Rattle.card.specs.Outcome.{outcomeOf}
 use Rattle.burst.specs.Outcome.{outcome}
 use Rattle.burst.proofs.Answers.{answer-is}
 use Rattle.burst.proofs.Received.{received-under, received-refused, received}
-use borrow.Author.Needs.{needs}
 use Rattle.burst.proofs.receive.burst_receive.Statement.{statement}
 use Rattle.burst.proofs.receive.burst_receive.Tie as tie
-use Rattle.burst.proofs.receive.burst_receive.Reads as reads
-use Rattle.burst.proofs.receive.burst_receive.Lts as lts
-use Rattle.burst.proofs.answer.refused.Reads as refused-reads
-use Rattle.burst.proofs.receive.receive_under.Reads as receive-under-reads
-use Rattle.card.proofs.read_card.Reads as read-card-reads
 
 read-card-requires : tie.Need-read-card-requires
 read-card-requires c κs = search needs

@@ -1,6 +1,6 @@
 -- The loop has taken in the frames that it passed.
-use Prim.Native.Nat.{ℕ, _+_, _-_, _≤_, _<_}
-use mathlib.Core.Path.{_≡_, refl, ap, _∙_}
+use Prim.Native.Nat.{_-_, _≤_}
+use mathlib.Core.Path.{_≡_}
 use native.Mathlib.Nat.{le-antisymm}
 use native.Mathlib.Omega.{arith}
 use lib.ListN.{length}
@@ -8,9 +8,6 @@ use Rattle.burst.specs.Held.{Carried}
 use Rattle.burst.proofs.Waiting.{coming-length, syndromes-length, wait-more}
 use Rattle.burst.proofs.receive.fill.Statement.{statement}
 use Rattle.burst.proofs.receive.fill.Tie as tie
-use Rattle.burst.proofs.receive.fill.Reads as reads
-use Rattle.burst.proofs.receive.fill.Lts as lts
-use Rattle.burst.proofs.receive.take_in.Reads as take-in-reads
 
 abbrev Inv-loop : tie.InvT-loop
 Inv-loop syndromes₀ coming₀ sums k p m input t₀ syndromes coming t =
@@ -49,11 +46,7 @@ returns : tie.Need-returns Inv-loop μ-loop
 returns c =
     let l = c .before .loop in
     let a = c .before .before .before .args in
-    let e : l .t ≡ a .m = le-antisymm (l .inv .0) (c .loop-test .left) in (
-      l .inv .1,
-      l .inv .2,
-      rw e at (l .inv .3),
-    )
+    let e : l .t ≡ a .m = le-antisymm (l .inv .0) (c .loop-test .left) in ((l .inv .1, l .inv .2), rw e at (l .inv .3))
 
 pub fill-spec : {M : Type 1} → statement M
 fill-spec =

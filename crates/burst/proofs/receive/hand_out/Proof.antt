@@ -1,6 +1,6 @@
 -- The loop has handed out the frames m before those that it passed.
-use Prim.Native.Nat.{ℕ, _+_, _-_, _≤_, _<_}
-use mathlib.Core.Path.{_≡_, refl, ap, _∙_}
+use Prim.Native.Nat.{_-_, _≤_}
+use mathlib.Core.Path.{_≡_, _∙_}
 use native.Mathlib.Nat.{le-antisymm}
 use native.Mathlib.Omega.{arith}
 use lib.ListN.{length, length-set}
@@ -9,11 +9,6 @@ use Rattle.burst.proofs.Waiting.{coming-length, syndromes-length}
 use Rattle.burst.proofs.HandingOut.{none-written, after-length, errors-small, hand-more, hand-none}
 use Rattle.burst.proofs.receive.hand_out.Statement.{statement}
 use Rattle.burst.proofs.receive.hand_out.Tie as tie
-use Rattle.burst.proofs.receive.hand_out.Reads as reads
-use Rattle.burst.proofs.receive.hand_out.Lts as lts
-use Rattle.burst.proofs.receive.correct.Reads as correct-reads
-use Rattle.burst.proofs.receive.corrected.Reads as corrected-reads
-use Rattle.burst.proofs.receive.take_in.Reads as take-in-reads
 
 abbrev Inv-loop : tie.InvT-loop
 Inv-loop syndromes₀ coming₀ sums counts checks k p m input output₀ t₀ syndromes coming output t =
@@ -45,7 +40,7 @@ correct-requires c κs =
     let T = c .before .take-in .ensures in
     let l = c .before .before .before .before .before .before .loop in
     let h = c .before .before .before .before .before .before .before .before .before .pre in
-    (omega arith, omega arith, h .3, syndromes-length T (omega arith) (l .inv .2), none-written T)
+    ((omega arith, omega arith, h .0 .J-most, syndromes-length T (omega arith) (l .inv .2)), none-written T)
 
 sub-u : tie.Need-sub-u Inv-loop μ-loop
 sub-u c = omega arith

@@ -1,18 +1,14 @@
-use Rattle.burst.specs.Held.{cardOf}
-use Rattle.burst.proofs.HandingOut.{none-handed, all-handed}
+use native.Mathlib.Omega.{arith}
 use borrow.Author.Needs.{needs}
+use Rattle.burst.specs.Held.{cardWith}
+use Rattle.burst.proofs.HandingOut.{none-handed, all-handed}
 use Rattle.burst.proofs.receive.receive_frames.Statement.{statement}
 use Rattle.burst.proofs.receive.receive_frames.Tie as tie
-use Rattle.burst.proofs.receive.receive_frames.Reads as reads
-use Rattle.burst.proofs.receive.receive_frames.Lts as lts
-use Rattle.burst.proofs.receive.fill.Reads as fill-reads
-use Rattle.burst.proofs.receive.generator_sums.Reads as generator-sums-reads
-use Rattle.burst.proofs.receive.hand_out.Reads as hand-out-reads
 
 returns : tie.Need-returns
 returns c number G =
     let a = c .before .before .before .args in
-    none-handed (cardOf number (a .k) (a .p) (a .m) (a .generators .now) (a .counts .now) (a .checks .now)) (a .input .now) (a .output .now) (c .if1 .taken)
+    none-handed (cardWith number (a .k) (a .p) (a .m) (a .generators .now) (a .counts .now) (a .checks .now)) (a .input .now) (a .output .now) (c .if1 .taken)
 
 generator-sums-requires : tie.Need-generator-sums-requires
 generator-sums-requires c κs = search needs
@@ -21,7 +17,10 @@ fill-requires : tie.Need-fill-requires
 fill-requires c κs = search needs
 
 hand-out-requires : tie.Need-hand-out-requires
-hand-out-requires c κs = search needs
+hand-out-requires c κs =
+    let h = c .before .before .before .before .before .before .before .before .before .before .before .before .pre in
+    let n = c .before .before .before .before .fill .ensures .0 in
+    (h .0, (n, (omega arith, h .1)))
 
 same-length : tie.Need-same-length
 same-length c = search needs
@@ -31,7 +30,7 @@ returns-2 c number G =
     let a = c .before .before .before .before .before .before .before .before .before .before .before .before .before .before .before .args in
     let sums = c .before .before .before .before .before .before .before .before .before .before .before .generator-sums in
     all-handed (sums .result) (a .counts .now) (a .checks .now) (a .generators .now) (a .input .now) (a .output .now) _ _ _ _ _ (a .k) (a .p) (a .m) number G (sums .ensures)
-    (c .before .before .before .before .before .before .before .fill .ensures .2) (c .before .before .hand-out .ensures)
+    (c .before .before .before .before .before .before .before .fill .ensures .1) (c .before .before .hand-out .ensures)
 
 pub receive-frames-spec : {M : Type 1} → statement M
 receive-frames-spec =

@@ -1,25 +1,18 @@
 -- Each way out of the call by the tests that led to it.
 use Prim.Native.Nat.{_-_, _≤_, _<_}
-use mathlib.Core.Path.{refl, sym, ap, _∙_}
+use mathlib.Core.Path.{sym, ap, _∙_}
 use native.Mathlib.Omega.{arith}
 use lib.ListN.{length}
 use lib.IntN.{pos}
+use borrow.Author.Needs.{needs}
 use Rattle.card.specs.Checks.{count}
 use Rattle.decoder.specs.Rule.{decoded}
 use Rattle.decoder.proofs.Streams.{decoded-length}
 use Rattle.burst.proofs.Answers.{answer-is}
 use Rattle.burst.proofs.Outcomes.{refused-is, given-is}
 use Rattle.burst.proofs.Received.{receive-full, receive-short, receive-beyond, receive-given}
-use borrow.Author.Needs.{needs}
 use Rattle.burst.proofs.receive.receive_under.Statement.{statement}
 use Rattle.burst.proofs.receive.receive_under.Tie as tie
-use Rattle.burst.proofs.receive.receive_under.Reads as reads
-use Rattle.burst.proofs.receive.receive_under.Lts as lts
-use Rattle.bits.proofs.any_beyond.Reads as any-beyond-reads
-use Rattle.burst.proofs.answer.frames.Reads as frames-reads
-use Rattle.burst.proofs.answer.refused.Reads as refused-reads
-use Rattle.burst.proofs.receive.after_first.Reads as after-first-reads
-use Rattle.burst.proofs.receive.receive_frames.Reads as receive-frames-reads
 
 refused-requires : tie.Need-refused-requires
 refused-requires c κs = search needs
@@ -65,7 +58,7 @@ receive-frames-requires c κs =
     let G = c .before .before .before .before .before .before .before .before .before .before .before .before .pre in
     let n = c .before .before .before .before .before .before .before .before .after-first .ensures in
     let o = c .before .before .before .before .before .before .before .if2 .left in
-    (G .k-most, G .n-most, G .m-most, G .J-most, omega arith)
+    (record { k-most = G .k-most; n-most = G .n-most; m-most = G .m-most; J-most = G .J-most }, omega arith)
 
 frames-requires : tie.Need-frames-requires
 frames-requires c κs = search needs

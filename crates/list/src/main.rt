@@ -1,0 +1,16 @@
+// Lists a card and received frames: standard input to standard output.
+use libc::STDIN_FILENO;
+use libc::STDOUT_FILENO;
+use listing::LONGEST_INPUT;
+use listing::LONGEST_LISTING;
+
+// The input is read to its end or to one byte more than the longest that is listed, whichever comes first. Of an input as long as that the
+// length is known already: with a stated length of at most 2,048 it has more than 32,768 frames, so it is too long whatever follows
+// (`by-the-front` in the promise of `list`).
+fn main() {
+    let mut input = [0u8; LONGEST_INPUT + 1];
+    let length = io::read_full(STDIN_FILENO, &mut input);
+    let mut output = [0u8; LONGEST_LISTING];
+    let count = listing::list(&input[..length], &mut output);
+    io::write_all(STDOUT_FILENO, &output[..count]);
+}

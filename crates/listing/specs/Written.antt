@@ -1,0 +1,32 @@
+-- What the functions of this crate promise to each other. Nobody has to believe this file: the promise of `list` does not speak of it.
+-- Assumes nothing.
+use Prim.Native.Nat.{ℕ, _+_, _≤_}
+use mathlib.Core.Path.{_≡_}
+use mathlib.Core.List.{List}
+use lib.ListN.{length, take}
+use lib.Seq.{sets}
+use Rattle.card.specs.Guarantees.{Guarantees}
+use Rattle.card.specs.Outcome.{accepted}
+use Rattle.card.specs.Reading.{readCard}
+use Rattle.card.specs.declared.Card.{Card}
+
+-- the text was stored in the output, byte by byte from `at` on, and the place after it handed back
+pub record Wrote (output : List ℕ) (at : ℕ) (written after : List ℕ) (end : ℕ) : Type 0 where
+  pub after-is : after ≡ sets output at written
+  pub end-is : end ≡ at + length written
+
+-- the text was written from the front on, and is no longer than `most`
+pub record WroteWhole (most : ℕ) (output written after : List ℕ) (end : ℕ) : Type 0 where
+  pub wrote : Wrote output 0 written after end
+  pub within : end ≤ most
+
+-- the frames handed out stand at the front of the buffer
+pub record HandsOut (handedOut after : List ℕ) (count : ℕ) : Type 0 where
+  pub count-is : count ≡ length handedOut
+  pub front-is : take count after ≡ handedOut
+
+-- the bytes are those of the card c, which is accepted
+pub record ReadAs (bytes : List ℕ) (c : Card) : Type 0 where
+  pub card-accepted : readCard bytes .outcome ≡ accepted
+  pub card-is : c ≡ readCard bytes .card
+  pub guaranteed : Guarantees c

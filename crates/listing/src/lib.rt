@@ -1,0 +1,146 @@
+// The listing: a card and received frames as text.
+mod lines;
+mod text;
+
+ghost use mathlib.Core.Path.{_≡_};
+ghost use mathlib.Core.Bool.{false};
+ghost use Prim.Native.Nat.{_+_, _≤_};
+ghost use lib.ListN.{length, take, drop};
+ghost use Rattle.bits.specs.Digits.{anyBeyond};
+ghost use Rattle.card.specs.Outcome.Outcome.{accepted};
+ghost use Rattle.card.specs.Reading.{readCard};
+ghost use Rattle.decoder.specs.Rule.{decoded};
+ghost use Rattle.burst.specs.Claims.{Admitted};
+ghost use Rattle.listing.specs.Listing.{statedLength, firstBeyond, listingOf, listingUnder};
+ghost use Rattle.listing.specs.Promise.{Lists};
+ghost use Rattle.listing.specs.Written.{WroteWhole, HandsOut, ReadAs};
+use card::Card;
+use card::Refusal;
+use card::Verdict;
+
+const LONGEST_CARD: usize = 2048;
+
+const MOST_FRAMES: usize = 32768;
+
+// The longest input that is listed has 2 bytes of length, the longest card and the most frames. One byte more decides that an input is too long.
+pub const LONGEST_INPUT: usize = 2 + 2048 + 32768;
+
+// The longest listing has a first line of 22 bytes (`card 255 k 4 n 8 m 31`), a line of 14 for each of the most frames (a time of five digits
+// and four streams) and a last line of 10 (`end 32768`).
+pub const LONGEST_LISTING: usize = 22 + 14 * 32768 + 10;
+
+fn size(x: u8) -> usize
+    ensures { λ r. ⌜ r ≡ x ⌝ }
+{
+    x as usize
+}
+
+// The stated length of the card, 0 where a length byte is missing.
+fn stated_length(input: &[u8]) -> usize
+    ensures { λ r. ⌜ r ≡ statedLength (now (input .entry)) ⌝ }
+{
+    if input.len() < 2 {
+        return 0;
+    }
+    size(input[0]) + size(input[1]) * 256
+}
+
+// The first bytes, so many or all there are.
+fn front(bytes: &[u8], count: usize) -> &[u8]
+    ensures { λ r. ⌜ now r ≡ take count (now (bytes .entry)) ⌝ }
+{
+    if count < bytes.len() {
+        &bytes[..count]
+    } else {
+        bytes
+    }
+}
+
+// The bytes after the first, so many or all there are.
+fn after(bytes: &[u8], count: usize) -> &[u8]
+    ensures { λ r. ⌜ now r ≡ drop count (now (bytes .entry)) ⌝ }
+{
+    if count < bytes.len() {
+        &bytes[count..]
+    } else {
+        let end = bytes.len();
+        &bytes[end..]
+    }
+}
+
+// The time of the first frame with a digit at stream n or beyond, the count of the frames where none has.
+fn first_beyond(frames: &[u8], n: usize) -> usize
+    ensures { λ r. ⌜ r ≡ firstBeyond n (now (frames .entry)) ⌝ }
+{
+    let mut time = 0;
+    while time < frames.len() {
+        if bits::beyond(frames[time], n) {
+            return time;
+        }
+        time += 1;
+    }
+    time
+}
+
+// The frames handed out for a burst that meets no refusal, at the front of the buffer: the count of them.
+fn receive(card: &[u8], frames: &[u8], buffer: &mut [u8]) -> usize
+    requires { ⌜ Admitted (now card) (now frames) (now buffer) ⌝ }
+    ensures { λ r. ⌜ HandsOut (decoded (readCard (now (card .entry)) .card) (now (frames .entry))) (now (buffer .exit)) r ⌝ }
+{
+    burst::receive::burst_receive(card, frames, buffer) as usize
+}
+
+// The listing of frames within their streams: the card's line, a line per frame handed out, and the count of these lines.
+fn list_received(card: Card, bytes: &[u8], frames: &[u8], output: &mut [u8]) -> usize
+    requires { ⌜ ReadAs (now bytes) card × (anyBeyond (card .k + card .p) (now frames) ≡ false) × (length (now frames) ≤ 32768) × (458784 ≤ length (now output)) ⌝ }
+    ensures { λ r. ⌜ WroteWhole 458784 (now (output .entry)) (listingOf card (decoded card (now (frames .entry)))) (now (output .exit)) r ⌝ }
+{
+    let k = card.k;
+    let mut buffer = [0u8; MOST_FRAMES];
+    let count = receive(bytes, frames, &mut buffer);
+    let after_card = lines::card_line(output, card.number, k, k + card.p, card.m);
+    let after_frames = lines::frame_lines(output, after_card, k, &buffer[..count]);
+    lines::end_line(output, after_frames, count)
+}
+
+// The listing under an accepted card. Every frame is looked at before a line is written.
+fn list_frames(card: Card, bytes: &[u8], frames: &[u8], output: &mut [u8]) -> usize
+    requires { ⌜ ReadAs (now bytes) card × (length (now frames) ≤ 32768) × (458784 ≤ length (now output)) ⌝ }
+    ensures { λ r. ⌜ WroteWhole 458784 (now (output .entry)) (listingUnder accepted card (now (frames .entry))) (now (output .exit)) r ⌝ }
+{
+    let time = first_beyond(frames, card.k + card.p);
+    if time < frames.len() {
+        return lines::refused(output, Refusal::DigitBeyondStreams, time);
+    }
+    list_received(card, bytes, frames, output)
+}
+
+// The listing of a card's bytes and frames.
+fn list_parts(bytes: &[u8], frames: &[u8], output: &mut [u8]) -> usize
+    requires { ⌜ (length (now frames) ≤ 32768) × (458784 ≤ length (now output)) ⌝ }
+    ensures { λ r. ⌜ WroteWhole 458784 (now (output .entry)) (listingUnder (readCard (now (bytes .entry)) .outcome) (readCard (now (bytes .entry)) .card) (now (frames .entry))) (now (output .exit)) r ⌝ }
+{
+    let read = card::read_card(bytes);
+    let verdict = read.verdict;
+    match verdict {
+        Verdict::Accepted => list_frames(read.card, bytes, frames, output),
+        Verdict::Refused { refusal, offset } => lines::refused(output, refusal, offset),
+    }
+}
+
+// The listing of an input, at the front of the output: the count of its bytes. No call runs out of room.
+pub fn list(input: &[u8], output: &mut [u8; LONGEST_LISTING]) -> usize
+    ensures { λ r. ⌜ Lists (now (input .entry)) (now (output .entry)) r (now (output .exit)) ⌝ }
+{
+    let length = stated_length(input);
+    let rest = after(input, 2);
+    let card = front(rest, length);
+    let frames = after(rest, length);
+    if LONGEST_CARD < length {
+        return lines::too_long(output);
+    }
+    if MOST_FRAMES < frames.len() {
+        return lines::too_long(output);
+    }
+    list_parts(card, frames, output)
+}

@@ -1,0 +1,57 @@
+// The lines that a trace writes.
+use card::Refusal;
+
+pub(crate) fn text(words: &[u8]) {
+    io::write_all(libc::STDOUT_FILENO, words);
+}
+
+fn number(n: u64) {
+    io::print_decimal(libc::STDOUT_FILENO, n);
+}
+
+pub(crate) fn too_long() {
+    text(b"input too long\n");
+}
+
+// Where a record is cut short or of another kind.
+pub(crate) fn bad_record() {
+    text(b"bad record\n");
+}
+
+// A word, a number and the line's end.
+fn counted(words: &[u8], n: u64) {
+    text(words);
+    number(n);
+    text(b"\n");
+}
+
+pub(crate) fn refused_card(refusal: Refusal, offset: usize) {
+    text(b"refused ");
+    number(card::refusal_number(refusal) as u64);
+    text(b" at ");
+    number(offset as u64);
+    text(b"\n");
+}
+
+fn refused(refusal: Refusal) {
+    counted(b"refused ", card::refusal_number(refusal) as u64);
+}
+
+pub(crate) fn received(answer: decoder::Answer) {
+    match answer {
+        decoder::Answer::Waiting => text(b"waiting\n"),
+        decoder::Answer::Frame(frame) => counted(b"frame ", frame as u64),
+        decoder::Answer::Refused(refusal) => refused(refusal),
+    }
+}
+
+pub(crate) fn sent(answer: encoder::Answer) {
+    match answer {
+        encoder::Answer::Frame(frame) => counted(b"frame ", frame as u64),
+        encoder::Answer::Refused(refusal) => refused(refusal),
+    }
+}
+
+pub(crate) fn figure(count: u32) {
+    counted(b"figure ", count as u64);
+}

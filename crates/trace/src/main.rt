@@ -1,0 +1,50 @@
+// Drives the sessions from outside, so that they can be tried by anything. Standard input: a two-byte card length and the card, as for the
+// listing, then records to the end; one line of output for each. The records are those of docs/TRACE.md.
+mod lines;
+mod records;
+
+use card::Verdict;
+
+// The longest input, and one byte to tell that there is more.
+const ROOM: usize = 65537;
+
+// The card's length as it is stated, 0 where its bytes are missing.
+fn stated_length(input: &[u8]) -> usize {
+    if input.len() < 2 {
+        return 0;
+    }
+    bits::size(input[0]) + bits::size(input[1]) * 256
+}
+
+// Opens both sessions with the card, and goes through the records after it.
+fn trace(input: &[u8]) {
+    let start = bits::at_most(2, input.len());
+    let rest = &input[start..];
+    let stated = stated_length(input);
+    if 2048 < stated {
+        lines::too_long();
+        return;
+    }
+    let length = bits::at_most(stated, rest.len());
+    let card = &rest[..length];
+    let receiver = decoder::open(card);
+    let verdict = receiver.verdict;
+    match verdict {
+        Verdict::Refused { refusal, offset } => lines::refused_card(refusal, offset),
+        Verdict::Accepted => {
+            lines::text(b"open\n");
+            let sender = encoder::open(card);
+            records::all(&rest[length..], receiver.session, sender.session);
+        }
+    }
+}
+
+fn main() {
+    let mut space = [0u8; ROOM];
+    let length = io::read_full(libc::STDIN_FILENO, &mut space);
+    if ROOM <= length {
+        lines::too_long();
+        return;
+    }
+    trace(&space[..length]);
+}

@@ -1,0 +1,147 @@
+// The records of a trace: a kind and its bytes. Each is one call of a session.
+ghost use Prim.Native.Nat.{_<_, _≤_};
+ghost use lib.ListN.{length};
+use crate::lines;
+use decoder::Reading;
+
+// Byte i, zero beyond the record.
+fn byte(record: &[u8], i: usize) -> u8 {
+    if i < record.len() { record[i] } else { 0 }
+}
+
+// How many bytes a record of this kind has, 0 for no kind.
+fn size(kind: u8) -> usize
+    ensures { λ r. ⌜ r ≤ 42 ⌝ }
+{
+    match kind {
+        b'b' => 3,
+        b'r' => 42,
+        b'f' => 1,
+        b'i' => 2,
+        b't' => 1,
+        _ => 0,
+    }
+}
+
+// The level of a bit pattern. Every NaN's pattern gives a NaN.
+fn level(pattern: u32) -> f32 {
+    if 0x7f80_0000 < pattern % 0x8000_0000 {
+        return 0.0f32 / 0.0f32;
+    }
+    f32::from_bits(pattern)
+}
+
+// The four bytes at a place, the lowest first.
+fn pattern(record: &[u8], at: usize) -> u32
+    requires { ⌜ at < 1000 ⌝ }
+{
+    let a = bits::wide(byte(record, at));
+    let b = bits::wide(byte(record, at + 1));
+    let c = bits::wide(byte(record, at + 2));
+    let d = bits::wide(byte(record, at + 3));
+    a + b * 256 + c * 65536 + d * 16777216
+}
+
+// Reading s of a record: a tag, 0 for a level and 1 for 'erased', and the level's bytes.
+fn reading(record: &[u8], s: usize) -> Reading
+    requires { ⌜ s < 8 ⌝ }
+{
+    if byte(record, 2 + s * 5) == 0 {
+        return Reading::Level(level(pattern(record, 3 + s * 5)));
+    }
+    Reading::Erased
+}
+
+// Whether every tag of a record with readings is one.
+fn tagged(record: &[u8]) -> bool {
+    let mut s = 0;
+    while s < 8 {
+        if 1 < byte(record, 2 + s * 5) {
+            return false;
+        }
+        s += 1;
+    }
+    true
+}
+
+fn readings(record: &[u8]) -> [Reading; 8] {
+    [
+        reading(record, 0),
+        reading(record, 1),
+        reading(record, 2),
+        reading(record, 3),
+        reading(record, 4),
+        reading(record, 5),
+        reading(record, 6),
+        reading(record, 7),
+    ]
+}
+
+// Both sessions.
+struct Sessions {
+    receiver: decoder::Session,
+    sender: encoder::Session,
+}
+
+fn receives(s: Sessions, received: decoder::Received) -> Sessions {
+    let answer = received.answer;
+    lines::received(answer);
+    let receiver = received.session;
+    let sender = s.sender;
+    Sessions { receiver, sender }
+}
+
+fn sends(s: Sessions, sent: encoder::Sent) -> Sessions {
+    let answer = sent.answer;
+    lines::sent(answer);
+    let receiver = s.receiver;
+    let sender = sent.session;
+    Sessions { receiver, sender }
+}
+
+// One record, of a kind that there is and whole.
+fn one(s: Sessions, record: &[u8]) -> Sessions {
+    let kind = byte(record, 0);
+    let second = byte(record, 1);
+    let receiver = s.receiver;
+    let sender = s.sender;
+    match kind {
+        b'b' => receives(s, decoder::receive_byte(receiver, second, byte(record, 2))),
+        b'r' => receives(
+            s,
+            decoder::receive_readings(receiver, second, readings(record)),
+        ),
+        b'i' => sends(s, encoder::send(sender, second)),
+        b't' => sends(s, encoder::send_tail(sender)),
+        _ => {
+            lines::figure(decoder::link_figure(receiver));
+            s
+        }
+    }
+}
+
+// The records in their order, to the end or to one that is none.
+pub(crate) fn all(input: &[u8], receiver: decoder::Session, sender: encoder::Session) {
+    let mut s = Sessions { receiver, sender };
+    let mut at = 0;
+    while at < input.len() {
+        let kind = input[at];
+        let n = size(kind);
+        if n == 0 {
+            lines::bad_record();
+            return;
+        }
+        if input.len() - at < n {
+            lines::bad_record();
+            return;
+        }
+        let end = at + n;
+        let record = &input[at..end];
+        if kind == b'r' && !tagged(record) {
+            lines::bad_record();
+            return;
+        }
+        s = one(s, record);
+        at = end;
+    }
+}

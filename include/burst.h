@@ -1,0 +1,168 @@
+/* burst.h: convolutional coding and threshold decoding of whole bursts, for controller firmware.
+ *
+ * Link with libburst.a (`rt staticlib burst` writes it to target/staticlib/), on x86-64. C99 or later, or C++.
+ * examples/firmware.c is a whole program over this header.
+ *
+ *
+ * In short
+ * --------
+ * A probe sends k streams of information digits (bits) and p streams of parity digits worked out
+ * from them, so that a receiver can tell which digits came wrong. One digit of each of the n = k + p
+ * streams makes a frame; a frame is one byte here. A burst is a row of frames.
+ *
+ *     burst_send      information frames, in      ->  sent frames, out
+ *     burst_receive   received frames, in         ->  information frames, out, corrected
+ *
+ * Which code is used, and how the receiver votes on each digit, stands on a link card: a row of 15
+ * to 1,163 bytes that you get with the probe. Both functions take the card's bytes at each call,
+ * read them and test them; there is nothing to open, to keep or to close.
+ *
+ *     uint8_t sent[3 + BURST_MOST_MEMORY], came[3];
+ *     int32_t count = burst_send(card, sizeof card, information, 3, sent, sizeof sent);
+ *     .. the frames travel, and some of their digits change on the way ..
+ *     count = burst_receive(card, sizeof card, sent, (size_t)count, came, sizeof came);
+ *     if (count < 0)
+ *         show_refusal(-count);
+ *
+ *
+ * Frames
+ * ------
+ * Bit i - 1 of a frame byte is the digit of stream i: bit 0 for stream 1, and so on. Streams 1 to k
+ * carry the information, streams k + 1 to n the parity. Bits beyond the frame's streams must be zero.
+ *
+ *     information frame   bits 0 to k - 1   what burst_send takes, and what burst_receive gives
+ *     sent frame          bits 0 to n - 1   what burst_send gives, and what burst_receive takes
+ *
+ * With k = 2, n = 3, for example, the sent frame 0x05 has digit 1 in stream 1, 0 in stream 2 and 1 in
+ * the parity stream; its information frame is 0x01.
+ *
+ *
+ * Memory and tail
+ * ---------------
+ * A parity digit depends on the information digits of its own frame and of the m frames before it; m
+ * is the card's memory, 0 to 31. After the last information frame a sender adds the tail, m frames of
+ * zero information, so that the last information frames are covered by as many parity digits as
+ * the others. burst_send adds it; burst_receive expects it and takes it off. So
+ *
+ *     burst_send      gives   input_length + m   frames
+ *     burst_receive   gives   input_length - m   frames, or 0 if there are no more than m
+ *
+ * An output of input_length + BURST_MOST_MEMORY bytes is enough for burst_send with any card, and one
+ * of input_length bytes for burst_receive. An empty burst is fine: burst_send then gives the tail alone.
+ *
+ *
+ * The answer
+ * ----------
+ * 0 or more: the count of output frames, one byte each. Just that many bytes of the output were
+ * written, from its first byte on; those beyond are as they were.
+ *
+ * Less than 0: minus the number of a refusal, one of enum burst_refusal. Nothing was written.
+ *
+ * Every possible input has one of these answers: there is nothing that you must test before the call,
+ * provided each pointer and length tell the truth (see "What you owe" below). Which refusal is met
+ * first is fixed too: the card's (1 to 10, in the order of its bytes), then 15, then 13, then 11.
+ *
+ *
+ * What is corrected
+ * -----------------
+ * For each information digit the card has a number of checks, J. A check is a sum of received digits
+ * that would be zero if all came right; the digit is taken for wrong if more than half of its J checks
+ * are not zero. If, among the digits that a digit's checks look at, no more than J / 2 (rounded down)
+ * came wrong, and this holds for every information digit of the burst, then the burst comes out
+ * exactly as it was sent. A card whose checks would not keep this is refused (8 and 9). With more wrong
+ * digits burst_receive still answers, with the digits that the vote gives; it can't tell that there
+ * were too many.
+ *
+ *
+ * What you owe
+ * ------------
+ * - Each pointer points to as many bytes as the length after it says, and that memory is yours for the
+ *   whole call: nobody else writes the card, the input or the output while it runs.
+ * - The output overlaps neither the card nor the input. (Card and input may overlap.)
+ * - With length 0 the pointer isn't looked at, and may be null. With any other length it may not be null.
+ * - No pointer needs to be aligned. A length is at most PTRDIFF_MAX, as for every object in C.
+ *
+ *
+ * What you get
+ * ------------
+ * - Only the output is written, and of it only the frames that the answer counts.
+ * - No memory is allocated, no file or device is touched, nothing is kept from one call to the next. So
+ *   the functions may be called from several threads at once, each with an output of its own.
+ * - A call takes less than BURST_STACK_BYTES of stack, most of it for the card that is being read:
+ *   measured, 7,208 bytes by burst_send and 9,944 by burst_receive. `tests/run` measures it again.
+ * - Each call ends. It takes time in proportion to the frames, after the reading of the card.
+ * - Of the C library only memcpy and memset are needed.
+ *
+ * The answer and every byte of the output are proved, for every input, of the code in crates/. No proof
+ * covers the stack and the time (they are measured), the compilers, this header, or "What you owe".
+ */
+#ifndef BURST_H
+#define BURST_H
+
+#include <stddef.h>
+#include <stdint.h>
+
+#ifdef __cplusplus
+extern "C" {
+#endif
+
+/* The limits of cards and bursts, and of what a call needs. */
+#define BURST_MOST_INFORMATION_STREAMS 4 /* k, at least 1 */
+#define BURST_MOST_STREAMS 8             /* n, at least k + 1 */
+#define BURST_MOST_MEMORY 31             /* m, at least 0 */
+#define BURST_MOST_CHECKS 16             /* J, at least 1, for each information stream */
+#define BURST_MOST_CARD_BYTES 1163       /* no card that is accepted is longer */
+#define BURST_MOST_FRAMES 1048576        /* frames of a burst as it is sent, with its tail */
+#define BURST_STACK_BYTES 12288          /* stack, for a call */
+
+/* Why a call is refused: the answer is minus one of these. The numbers are published and stay. (The
+ * missing ones, 12, 14, 16 and 17, belong to calls that receive or send frame by frame.) */
+enum burst_refusal {
+    /* The card is not one, or is damaged: */
+    BURST_CARD_CUT_SHORT = 1,           /* it ends inside a field */
+    BURST_K_OUT_OF_RANGE = 2,           /* k is not 1 to 4 */
+    BURST_N_OUT_OF_RANGE = 3,           /* n is not k + 1 to 8 */
+    BURST_MEMORY_ABOVE_LIMIT = 4,       /* m is above 31 */
+    BURST_MAP_BEYOND_STREAMS = 5,       /* a map has a bit set for a stream or field that there isn't */
+    BURST_MASK_OUT_OF_RANGE = 6,        /* a mask that stands on the card is zero, or has a bit above m */
+    BURST_CHECK_COUNT_OUT_OF_RANGE = 7, /* J is not 1 to 16 */
+    BURST_BYTES_AFTER_CHECKS = 10,      /* bytes are left after the last check */
+
+    /* The card can be read, but a receiver that voted by it could spoil a burst: */
+    BURST_OWN_DIGIT_UNTOUCHED = 8,      /* a check doesn't look at the digit that it votes on */
+    BURST_ERROR_TOUCHED_BEFORE = 9,     /* two checks on one digit look at the same other digit */
+
+    /* The card is good, but the burst is not: */
+    BURST_DIGIT_BEYOND_STREAMS = 11,    /* an input frame has a bit beyond its streams (k for burst_send, n for burst_receive) */
+    BURST_OUTPUT_TOO_SHORT = 13,        /* the output has room for fewer frames than there will be */
+    BURST_TOO_MANY_FRAMES = 15          /* more than BURST_MOST_FRAMES as sent, with the tail */
+};
+
+/* Sends a burst: information frames in, the frames to transmit out, followed by the tail.
+ *
+ *   card, card_length       the link card
+ *   input, input_length     information frames, one byte each, bits 0 to k - 1; from 0 frames on
+ *   output, output_length   receives input_length + m frames, bits 0 to n - 1
+ *
+ * Answers input_length + m, or minus a refusal (enum burst_refusal); see "The answer" above. */
+int32_t burst_send(const uint8_t *card, size_t card_length,
+                   const uint8_t *input, size_t input_length,
+                   uint8_t *output, size_t output_length);
+
+/* Receives a burst: the frames that came, the tail's included, in; corrected information frames out.
+ *
+ *   card, card_length       the link card, the one the probe sends by
+ *   input, input_length     received frames, one byte each, bits 0 to n - 1; from 0 frames on
+ *   output, output_length   receives input_length - m frames, bits 0 to k - 1 (none if input_length <= m)
+ *
+ * Answers the count of output frames, or minus a refusal (enum burst_refusal); see "The answer" above.
+ * A burst carries no card number: a card of another probe is not noticed here, if it is a good card. */
+int32_t burst_receive(const uint8_t *card, size_t card_length,
+                      const uint8_t *input, size_t input_length,
+                      uint8_t *output, size_t output_length);
+
+#ifdef __cplusplus
+}
+#endif
+
+#endif

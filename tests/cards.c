@@ -1,0 +1,258 @@
+#include "cards.h"
+
+#include <string.h>
+
+/* ---- Bytes ---- */
+
+static uint8_t *write_mask(const int digits[MOST_MEMORY + 1], uint8_t *at)
+{
+    for (int b = 0; b < 4; b++) {
+        int byte = 0, worth = 1;
+        for (int a = 8 * b; a < 8 * b + 8; a++) {
+            byte += worth * digits[a];
+            worth *= 2;
+        }
+        *at++ = (uint8_t)byte;
+    }
+    return at;
+}
+
+static int stands(const int digits[MOST_MEMORY + 1])
+{
+    for (int a = 0; a <= MOST_MEMORY; a++)
+        if (digits[a])
+            return 1;
+    return 0;
+}
+
+static uint8_t *write_check(const struct fields *card, int i, int q, uint8_t *at)
+{
+    uint8_t *map = at++;
+    int worth = 1;
+    *map = 0;
+    for (int j = 1; j <= card->p; j++) {
+        if (stands(card->check[i][q][j])) {
+            *map = (uint8_t)(*map + worth);
+            at = write_mask(card->check[i][q][j], at);
+        }
+        worth *= 2;
+    }
+    return at;
+}
+
+static uint8_t *write_generators(const struct fields *card, uint8_t *at)
+{
+    uint8_t *map = at;
+    int place = 0;
+    at += 2;
+    map[0] = map[1] = 0;
+    for (int i = 1; i <= card->k; i++)
+        for (int j = 1; j <= card->p; j++) {
+            if (stands(card->g[i][j])) {
+                map[place / 8] = (uint8_t)(map[place / 8] + (1 << place % 8));
+                at = write_mask(card->g[i][j], at);
+            }
+            place++;
+        }
+    return at;
+}
+
+size_t write_card(const struct fields *card, int state_k, int state_n, uint8_t *bytes)
+{
+    uint8_t *at = bytes;
+    int k_stands = state_k || card->k != 1, n_stands = state_n || card->n != 2;
+    *at++ = (uint8_t)(k_stands + 2 * n_stands);
+    *at++ = (uint8_t)card->number;
+    if (k_stands)
+        *at++ = (uint8_t)card->k;
+    if (n_stands)
+        *at++ = (uint8_t)card->n;
+    *at++ = (uint8_t)card->m;
+    at = write_generators(card, at);
+    for (int i = 1; i <= card->k; i++) {
+        *at++ = (uint8_t)card->J[i];
+        for (int q = 1; q <= card->J[i] && q <= MOST_CHECKS; q++)
+            at = write_check(card, i, q, at);
+    }
+    return (size_t)(at - bytes);
+}
+
+/* ---- The bench ("Cards on the bench") ---- */
+
+static void set_sizes(struct fields *card, int number, int k, int n, int m)
+{
+    memset(card, 0, sizeof *card);
+    card->number = number;
+    card->k = k;
+    card->n = n;
+    card->p = n - k;
+    card->m = m;
+}
+
+/* Adds a check on one syndrome, s(a, 1), to stream i. */
+static void add_single(struct fields *card, int i, int a)
+{
+    card->J[i]++;
+    card->check[i][card->J[i]][1][a] = 1;
+}
+
+void bench_card(char name, struct fields *card)
+{
+    switch (name) {
+    case 'P':
+        set_sizes(card, 7, 1, 2, 1);
+        card->g[1][1][0] = card->g[1][1][1] = 1;
+        add_single(card, 1, 0);
+        add_single(card, 1, 1);
+        break;
+    case 'Q':
+        set_sizes(card, 8, 1, 2, 3);
+        card->g[1][1][0] = card->g[1][1][1] = card->g[1][1][3] = 1;
+        add_single(card, 1, 0);
+        add_single(card, 1, 1);
+        add_single(card, 1, 3);
+        break;
+    case 'R':
+        set_sizes(card, 9, 1, 2, 5);
+        card->g[1][1][0] = card->g[1][1][3] = card->g[1][1][4] = card->g[1][1][5] = 1;
+        add_single(card, 1, 0);
+        add_single(card, 1, 3);
+        add_single(card, 1, 4);
+        add_single(card, 1, 5);
+        card->check[1][4][1][1] = 1;
+        break;
+    default: /* T */
+        set_sizes(card, 10, 2, 3, 2);
+        card->g[1][1][0] = card->g[1][1][1] = 1;
+        card->g[2][1][0] = card->g[2][1][2] = 1;
+        add_single(card, 1, 0);
+        add_single(card, 1, 1);
+        add_single(card, 2, 0);
+        add_single(card, 2, 2);
+        break;
+    }
+}
+
+/* ---- Random cards ---- */
+
+static void random_generators(struct random *r, struct fields *card, int terms)
+{
+    for (int i = 1; i <= card->k; i++) {
+        int needed = between(r, 1, card->p); /* a stream in no parity stream at all can have no check */
+        for (int j = 1; j <= card->p; j++) {
+            if (j != needed && one_in(r, 4))
+                continue;
+            for (int t = between(r, 1, terms); t > 0; t--)
+                card->g[i][j][between(r, 0, card->m)] = 1;
+        }
+    }
+}
+
+/* Replaces check q of stream i: a syndrome in which digit (0, i) is, and fewer than `more` others. */
+static void random_check(struct random *r, struct fields *card, int i, int q, int more)
+{
+    memset(card->check[i][q], 0, sizeof card->check[i][q]);
+    int a, j;
+    do {
+        a = between(r, 0, card->m);
+        j = between(r, 1, card->p);
+    } while (!card->g[i][j][a]);
+    card->check[i][q][j][a] = 1;
+    for (int others = below(r, more); others > 0; others--)
+        card->check[i][q][between(r, 1, card->p)][between(r, 0, card->m)] = 1;
+}
+
+static int fits(const struct fields *card, int i, const struct touched *own, const struct touched *taken)
+{
+    if (!own->error[0][i])
+        return 0;
+    for (int b = 0; b <= card->m; b++)
+        for (int s = 1; s <= card->n; s++)
+            if (own->error[b][s] && taken->error[b][s] && !(b == 0 && s == i))
+                return 0;
+    return 1;
+}
+
+static void add_errors(const struct fields *card, const struct touched *own, struct touched *taken)
+{
+    for (int b = 0; b <= card->m; b++)
+        for (int s = 1; s <= card->n; s++)
+            taken->error[b][s] |= own->error[b][s];
+}
+
+/* Takes random checks for stream i as long as they fit, up to `most`. Single syndromes touch the fewest errors, so
+ * most checks are found where they are tried first. */
+static void random_checks(struct random *r, struct fields *card, int i, int most)
+{
+    struct touched taken, own;
+    int singles = one_in(r, 2) ? 16 * most : 0;
+    memset(&taken, 0, sizeof taken);
+    card->J[i] = 0;
+    for (int tries = 0; card->J[i] < most && (card->J[i] == 0 || tries < 24 * most); tries++) {
+        int q = card->J[i] + 1;
+        random_check(r, card, i, q, tries < singles ? 1 : 4);
+        own = reference_touched(card, i, q);
+        if (fits(card, i, &own, &taken)) {
+            add_errors(card, &own, &taken);
+            card->J[i] = q;
+        } else {
+            memset(card->check[i][q], 0, sizeof card->check[i][q]);
+        }
+    }
+}
+
+void random_card_of_shape(struct random *r, int k, int n, int m, int most, int terms, struct fields *card)
+{
+    set_sizes(card, below(r, 256), k, n, m);
+    random_generators(r, card, terms);
+    for (int i = 1; i <= k; i++)
+        random_checks(r, card, i, most);
+}
+
+void random_card(struct random *r, struct fields *card)
+{
+    if (one_in(r, 20)) { /* many checks: one stream, many sparse generators */
+        random_card_of_shape(r, 1, between(r, 7, MOST_STREAMS), between(r, 28, MOST_MEMORY), MOST_CHECKS, 5, card);
+        return;
+    }
+    int k = one_in(r, 3) ? 1 : between(r, 1, MOST_INFORMATION);
+    int n = between(r, k + 1, MOST_STREAMS);
+    int m = one_in(r, 4) ? below(r, 4) : one_in(r, 8) ? MOST_MEMORY : between(r, 0, MOST_MEMORY);
+    int most = one_in(r, 3) ? MOST_CHECKS : between(r, 1, MOST_CHECKS);
+    int terms = one_in(r, 5) ? 12 : between(r, 1, 4);
+    random_card_of_shape(r, k, n, m, most, terms, card);
+}
+
+void spoil_card(struct random *r, struct fields *card)
+{
+    int i = between(r, 1, card->k), q = between(r, 1, card->J[i]);
+    switch (below(r, 8)) {
+    case 0: /* a check twice */
+        memcpy(card->check[i][q], card->check[i][between(r, 1, card->J[i])], sizeof card->check[i][q]);
+        break;
+    case 1: /* another check that is on the digit, orthogonal or not */
+        random_check(r, card, i, q, 4);
+        break;
+    case 2: /* a check on anything */
+        memset(card->check[i][q], 0, sizeof card->check[i][q]);
+        for (int pairs = below(r, 4); pairs > 0; pairs--)
+            card->check[i][q][between(r, 1, card->p)][between(r, 0, card->m)] = 1;
+        break;
+    case 3: /* one pair more, or one less */
+        card->check[i][q][between(r, 1, card->p)][between(r, 0, card->m)] ^= 1;
+        break;
+    case 4: /* another generator under the same checks */
+        card->g[i][between(r, 1, card->p)][between(r, 0, card->m)] ^= 1;
+        break;
+    case 5: /* no such J */
+        card->J[i] = one_in(r, 2) ? 0 : between(r, MOST_CHECKS + 1, 255);
+        break;
+    case 6: /* a mask with a bit above m, if there is room above */
+        if (card->m < MOST_MEMORY)
+            card->check[i][q][between(r, 1, card->p)][between(r, card->m + 1, MOST_MEMORY)] = 1;
+        break;
+    default: /* no such m */
+        card->m = between(r, MOST_MEMORY + 1, 255);
+        break;
+    }
+}

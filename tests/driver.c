@@ -1,0 +1,608 @@
+/* Sets the library (libburst.a, by include/burst.h) against the reference: random and damaged cards, random
+ * bursts with few, many and only wrong digits, every output size around the count. Each call's answer, every
+ * output byte, the guard bytes around each lent buffer, and the card and input themselves are compared.
+ *
+ *     driver               everything, with the seed that is always the same
+ *     driver SEED          everything, with another seed
+ *     driver SEED ROUND    one round again: a failure prints both numbers
+ *
+ * Status 0: all agreed, and every refusal that a burst can meet was met. */
+#include "burst.h"
+
+#include "cards.h"
+#include "lent.h"
+#include "random.h"
+#include "reference.h"
+
+#include <signal.h>
+#include <stdarg.h>
+#include <stdio.h>
+#include <stdlib.h>
+#include <string.h>
+#include <unistd.h>
+
+enum {
+    RANDOM_CARDS = 8000,   /* rounds with a random card, each with streams if the card is accepted */
+    DAMAGED_CARDS = 20,     /* rounds in which every byte of a card is changed, and it is cut and extended everywhere */
+    MOST_ROOM = MOST_FRAMES + 64
+};
+
+enum direction { SEND, RECEIVE };
+
+/* What is compared at the moment, for the report of a failure. */
+static struct {
+    uint64_t seed;
+    long round;
+    enum direction direction;
+    const uint8_t *card, *input;
+    size_t card_length, input_length, output_length;
+} now;
+
+static struct {
+    long calls, cards, cards_accepted, streams, clean, corrected, beyond, correctable;
+    int most_checks; /* the largest J of a stream's card */
+    long refused[32];      /* calls, by the refusal's number */
+    long cards_refused[32]; /* cards, by the refusal's number */
+} counts;
+
+static struct arena card_arena, input_arena, output_arena;
+static uint8_t *expected; /* the output as the reference leaves it */
+
+/* ---- Failing ---- */
+
+static void print_hexadecimal(const char *what, const uint8_t *bytes, size_t length)
+{
+    size_t shown = length < 8192 ? length : 8192;
+    printf("%s (%zu bytes)", what, length);
+    for (size_t b = 0; b < shown; b++)
+        printf("%s%02x", b % 32 == 0 ? "\n  " : " ", bytes[b]);
+    printf(shown < length ? "\n  .. (the seed and the round give the rest)\n" : "\n");
+}
+
+/* Prints what was tried, and ends the run. */
+static void fail(const char *format, ...)
+{
+    va_list arguments;
+    va_start(arguments, format);
+    printf("FAILED: ");
+    vprintf(format, arguments);
+    va_end(arguments);
+    printf("\nagain: driver %llu %ld\n", (unsigned long long)now.seed, now.round);
+    printf("%s, room for %zu output bytes\n", now.direction == SEND ? "burst_send" : "burst_receive", now.output_length);
+    print_hexadecimal("card", now.card, now.card_length);
+    print_hexadecimal("input", now.input, now.input_length);
+    fflush(stdout);
+    _exit(1);
+}
+
+static void reached_outside(int signal_number)
+{
+    fail("the library reached outside what was lent to it (signal %d)", signal_number);
+}
+
+/* ---- One call, by both ---- */
+
+/* A fresh output, and the same bytes as what the reference starts from. */
+static void fill_output(struct random *r, size_t length)
+{
+    for (size_t b = 0; b < length; b++)
+        expected[b] = (uint8_t)random_word(r);
+}
+
+static void compare(int32_t answer, int32_t reference_answer)
+{
+    if (answer != reference_answer)
+        fail("the library answers %d, the reference %d", (int)answer, (int)reference_answer);
+    if (!holds(&output_arena, expected)) {
+        print_hexadecimal("output of the library", lent_bytes(&output_arena), now.output_length);
+        print_hexadecimal("output of the reference", expected, now.output_length);
+        fail("the output differs, or bytes around it were written (answer %d)", (int)answer);
+    }
+    if (!holds(&card_arena, now.card))
+        fail("the card or bytes around it were written");
+    if (!holds(&input_arena, now.input))
+        fail("the input or bytes around it were written");
+}
+
+/* Calls both, compares everything, and gives the answer; the output is then in `expected`. */
+static int32_t call(struct random *r, enum direction direction, const uint8_t *card, size_t card_length,
+                    const uint8_t *input, size_t input_length, size_t output_length)
+{
+    now.direction = direction;
+    now.card = card, now.card_length = card_length;
+    now.input = input, now.input_length = input_length;
+    now.output_length = output_length;
+    fill_output(r, output_length);
+    uint8_t *lent_card = lend(&card_arena, card, card_length, below(r, PLACEMENTS));
+    uint8_t *lent_input = lend(&input_arena, input, input_length, below(r, PLACEMENTS));
+    uint8_t *lent_output = lend(&output_arena, expected, output_length, below(r, PLACEMENTS));
+    int32_t (*library)(const uint8_t *, size_t, const uint8_t *, size_t, uint8_t *, size_t) =
+        direction == SEND ? burst_send : burst_receive;
+    int32_t (*reference)(const uint8_t *, size_t, const uint8_t *, size_t, uint8_t *, size_t) =
+        direction == SEND ? reference_burst_send : reference_burst_receive;
+    int32_t answer = library(lent_card, card_length, lent_input, input_length, lent_output, output_length);
+    compare(answer, reference(card, card_length, input, input_length, expected, output_length));
+    counts.calls++;
+    if (answer < 0)
+        counts.refused[-answer]++;
+    return answer;
+}
+
+/* ---- Cards ---- */
+
+/* Whether both accept the card, by an empty burst. */
+static int accepted(struct random *r, const uint8_t *card, size_t length)
+{
+    int32_t sent = call(r, SEND, card, length, NULL, 0, MOST_MEMORY);
+    int32_t received = call(r, RECEIVE, card, length, NULL, 0, 0);
+    if ((sent < 0 ? sent : 0) != received)
+        fail("burst_send says %d of the card, burst_receive %d", (int)sent, (int)received);
+    counts.cards++;
+    if (sent < 0)
+        counts.cards_refused[-sent]++;
+    else
+        counts.cards_accepted++;
+    return sent >= 0;
+}
+
+/* ---- Streams ---- */
+
+static void random_frames(struct random *r, int streams, uint8_t *frames, long count)
+{
+    for (long u = 0; u < count; u++)
+        frames[u] = (uint8_t)(random_word(r) % (1u << streams));
+}
+
+/* Makes digits of the frames wrong; 0 leaves them, 1000 takes all. Gives the number of wrong digits. */
+static long damage(struct random *r, int streams, int in_thousand, uint8_t *frames, long count)
+{
+    long wrong = 0;
+    for (long u = 0; u < count; u++)
+        for (int s = 0; s < streams; s++)
+            if (below(r, 1000) < in_thousand) {
+                frames[u] = (uint8_t)(frames[u] ^ (1 << s));
+                wrong++;
+            }
+    return wrong;
+}
+
+/* Makes digits wrong that the checks of one digit touch: as many as they can stand, or one more. */
+static long damage_touched(struct random *r, const struct fields *fields, uint8_t *frames, long count)
+{
+    struct { int b, s; } digits[(MOST_MEMORY + 1) * MOST_STREAMS];
+    int found = 0;
+    if (count == 0)
+        return 0;
+    int i = between(r, 1, fields->k), wrong = fields->J[i] / 2 + below(r, 2);
+    long u = below(r, (int)count);
+    for (int q = 1; q <= fields->J[i]; q++) {
+        struct touched touched = reference_touched(fields, i, q);
+        for (int b = 0; b <= fields->m; b++)
+            for (int s = 1; s <= fields->n; s++)
+                if (touched.error[b][s] && (q == 1 || b != 0 || s != i)) /* its own digit once only */
+                    digits[found].b = b, digits[found++].s = s;
+    }
+    for (int chosen = 0; chosen < wrong; chosen++) {
+        int pick = between(r, chosen, found - 1);
+        frames[u + digits[pick].b] ^= (uint8_t)(1 << (digits[pick].s - 1));
+        digits[pick] = digits[chosen];
+    }
+    return wrong;
+}
+
+/* A number of frames around which things may go wrong, and sometimes any: 119 at most. */
+static long length_around(struct random *r, int memory)
+{
+    int m = memory > MOST_MEMORY ? MOST_MEMORY : memory; /* a spoiled card may state more */
+    switch (below(r, 6)) {
+    case 0:
+        return below(r, 4);
+    case 1:
+        return between(r, m > 2 ? m - 2 : 0, m + 2);
+    case 2:
+        return between(r, 2 * m, 2 * m + 2);
+    default:
+        return below(r, 120);
+    }
+}
+
+/* Both calls once more, with every output size around the count: one short of it is 13. */
+static void sizes_around(struct random *r, enum direction direction, const uint8_t *card, size_t card_length,
+                         const uint8_t *input, long input_length, long count)
+{
+    for (long size = count > 3 ? count - 3 : 0; size <= count + 3; size++) {
+        int32_t answer = call(r, direction, card, card_length, input, (size_t)input_length, (size_t)size);
+        if (answer != (size < count ? -13 : count))
+            fail("room for %ld of %ld frames, and the answer is %d", size, count, (int)answer);
+    }
+}
+
+/* Received frames that nobody sent, some with a digit beyond their streams, and outputs that may be too short. */
+static void any_frames(struct random *r, const struct fields *fields, const uint8_t *card, size_t card_length)
+{
+    uint8_t frames[120];
+    long length = length_around(r, fields->m);
+    enum direction direction = one_in(r, 2) ? SEND : RECEIVE;
+    int streams = direction == SEND ? fields->k : fields->n;
+    random_frames(r, streams, frames, length);
+    if (length > 0 && streams < 8 && one_in(r, 2))
+        frames[below(r, (int)length)] |= (uint8_t)(1 << between(r, streams, 7));
+    call(r, direction, card, card_length, frames, (size_t)length, (size_t)between(r, 0, 2 * (int)length + 40));
+}
+
+/* A sent stream, with wrong digits, received: what comes out, and whether it must come out as sent. */
+static void stream(struct random *r, const struct fields *fields, const uint8_t *card, size_t card_length)
+{
+    static const int rates[] = {0, 2, 10, 10, 30, 100, 300, 500, 1000};
+    uint8_t information[120], sent[120 + MOST_MEMORY], received[120 + MOST_MEMORY];
+    long count = length_around(r, fields->m), whole = count + fields->m;
+    random_frames(r, fields->k, information, count);
+    int32_t answer = call(r, SEND, card, card_length, information, (size_t)count, (size_t)(whole + below(r, 5)));
+    if (answer != whole)
+        fail("%ld information frames are sent as %d", count, (int)answer);
+    memcpy(sent, expected, (size_t)whole);
+    memcpy(received, expected, (size_t)whole);
+    long wrong = one_in(r, 3) ? damage_touched(r, fields, received, count)
+                              : damage(r, fields->n, rates[below(r, 9)], received, whole);
+    answer = call(r, RECEIVE, card, card_length, received, (size_t)whole, (size_t)(count + below(r, 5)));
+    if (answer != count)
+        fail("%ld frames are received as %d", whole, (int)answer);
+    int as_sent = memcmp(expected, information, (size_t)count) == 0;
+    int must = reference_correctable(fields, sent, received, count);
+    counts.streams++;
+    for (int i = 1; i <= fields->k; i++)
+        if (fields->J[i] > counts.most_checks)
+            counts.most_checks = fields->J[i];
+    counts.clean += wrong == 0;
+    counts.corrected += wrong > 0 && as_sent;
+    counts.beyond += !as_sent;
+    counts.correctable += must && wrong > 0;
+    if (must && !as_sent)
+        fail("a correctable stream did not come out as sent");
+    if (one_in(r, 8)) {
+        sizes_around(r, SEND, card, card_length, information, count, whole);
+        sizes_around(r, RECEIVE, card, card_length, received, whole, count);
+    }
+}
+
+/* ---- Rounds ---- */
+
+/* Bytes of an accepted card, or of one near it, changed at random. */
+static size_t damage_bytes(struct random *r, uint8_t *card, size_t length)
+{
+    size_t at = (size_t)below(r, (int)length);
+    switch (below(r, 6)) {
+    case 0: /* cut */
+        return at;
+    case 1: /* extended */
+        card[length] = (uint8_t)random_word(r);
+        return length + 1;
+    case 2: /* a byte left out */
+        memmove(card + at, card + at + 1, length - at - 1);
+        return length - 1;
+    case 3: /* a byte put in */
+        memmove(card + at + 1, card + at, length - at);
+        card[at] = (uint8_t)random_word(r);
+        return length + 1;
+    case 4: /* a field near the front */
+        card[below(r, length < 12 ? (int)length : 12)] = (uint8_t)random_word(r);
+        return length;
+    default:
+        card[at] = (uint8_t)random_word(r);
+        return length;
+    }
+}
+
+static void random_card_round(struct random *r)
+{
+    struct fields fields;
+    uint8_t card[MOST_CARD_BYTES + 64];
+    random_card(r, &fields);
+    int kind = below(r, 10);
+    if (kind == 0 || kind == 1)
+        spoil_card(r, &fields);
+    size_t length = write_card(&fields, one_in(r, 3), one_in(r, 3), card);
+    if (kind == 2 || kind == 3)
+        length = damage_bytes(r, card, length);
+    any_frames(r, &fields, card, length); /* the card's refusals come before the burst's */
+    if (!accepted(r, card, length))
+        return;
+    if (reference_read_card(card, length, &fields).refusal)
+        fail("the reference refuses a card that it accepted");
+    stream(r, &fields, card, length);
+    any_frames(r, &fields, card, length);
+}
+
+/* A card that is changed, and if it is still one, a stream by it. */
+static void changed_card(struct random *r, const uint8_t *card, size_t length)
+{
+    struct fields fields;
+    if (accepted(r, card, length) && reference_read_card(card, length, &fields).refusal == 0)
+        stream(r, &fields, card, length);
+}
+
+/* Every byte of the card changed in several ways, the card cut everywhere, and extended. */
+static void damage_everywhere(struct random *r, const uint8_t *card, size_t length, int every_value)
+{
+    uint8_t changed[MOST_CARD_BYTES + 8];
+    for (size_t at = 0; at < length; at++) {
+        for (int change = 1; change < 256; change += every_value ? 1 : change) {
+            memcpy(changed, card, length);
+            changed[at] = (uint8_t)(changed[at] ^ change);
+            changed_card(r, changed, length);
+        }
+        changed_card(r, card, at);
+    }
+    memcpy(changed, card, length);
+    for (size_t extended = length + 1; extended <= length + 6; extended++) {
+        changed[extended - 1] = one_in(r, 2) ? 0 : (uint8_t)random_word(r);
+        changed_card(r, changed, extended);
+    }
+}
+
+static void damaged_card_round(struct random *r, int turn)
+{
+    struct fields fields;
+    uint8_t card[MOST_CARD_BYTES];
+    if (turn < 4) {
+        bench_card("PQRT"[turn], &fields);
+    } else {
+        int k = between(r, 1, MOST_INFORMATION);
+        random_card_of_shape(r, k, between(r, k + 1, MOST_STREAMS), below(r, 32), between(r, 2, 6), 3, &fields);
+    }
+    size_t length = write_card(&fields, one_in(r, 2), one_in(r, 2), card);
+    damage_everywhere(r, card, length, turn < 4);
+}
+
+/* An accepted card with the most checks that a stream can have. */
+static void card_with_most_checks(struct random *r, struct fields *fields)
+{
+    do
+        random_card_of_shape(r, 1, MOST_STREAMS, MOST_MEMORY, MOST_CHECKS, 4, fields);
+    while (fields->J[1] < MOST_CHECKS);
+}
+
+/* Bursts of every length from 0 to well beyond m, both ways, on every card of the bench and on large cards. */
+static void every_length_round(struct random *r, int turn)
+{
+    struct fields fields;
+    uint8_t card[MOST_CARD_BYTES], frames[128];
+    if (turn < 4)
+        bench_card("PQRT"[turn], &fields);
+    else if (turn == 4)
+        card_with_most_checks(r, &fields);
+    else
+        random_card_of_shape(r, turn - 3, turn + 1, MOST_MEMORY, MOST_CHECKS, 3, &fields);
+    size_t length = write_card(&fields, 0, 0, card);
+    for (int streams = 0; streams < 20; streams++)
+        stream(r, &fields, card, length);
+    for (long count = 0; count <= 2 * fields.m + 4; count++) {
+        random_frames(r, fields.k, frames, count);
+        sizes_around(r, SEND, card, length, frames, count, count + fields.m);
+        random_frames(r, fields.n, frames, count);
+        sizes_around(r, RECEIVE, card, length, frames, count, count > fields.m ? count - fields.m : 0);
+    }
+}
+
+/* A card of the most bytes that one within the limits can have: k 4, n 8, every mask standing, J 16. (Its random
+ * checks are refused; cards with fewer masks are accepted in the other rounds.) */
+static void longest_card_round(struct random *r)
+{
+    struct fields fields;
+    uint8_t card[MOST_CARD_BYTES];
+    random_card_of_shape(r, 4, 8, MOST_MEMORY, 1, 1, &fields);
+    for (int i = 1; i <= 4; i++) {
+        fields.J[i] = MOST_CHECKS;
+        for (int j = 1; j <= 4; j++) {
+            fields.g[i][j][between(r, 0, MOST_MEMORY)] = 1;
+            for (int q = 1; q <= MOST_CHECKS; q++)
+                fields.check[i][q][j][between(r, 0, MOST_MEMORY)] = 1;
+        }
+    }
+    size_t length = write_card(&fields, 1, 1, card);
+    if (length != MOST_CARD_BYTES)
+        fail("the longest card has %zu bytes", length);
+    accepted(r, card, length);
+}
+
+/* Bursts around 1,048,576 frames: 15 by length, before 13 and 11. */
+static void limit_round(struct random *r, char name)
+{
+    struct fields fields;
+    uint8_t card[MOST_CARD_BYTES];
+    bench_card(name, &fields);
+    size_t length = write_card(&fields, 0, 0, card);
+    long most[] = {MOST_FRAMES - fields.m, MOST_FRAMES}; /* input frames of a sent, of a received burst */
+    uint8_t *frames = malloc(MOST_ROOM);
+    for (enum direction direction = SEND; direction <= RECEIVE; direction++) {
+        int streams = direction == SEND ? fields.k : fields.n;
+        for (long count = most[direction] - 1; count <= most[direction] + 2; count++) {
+            random_frames(r, streams, frames, count);
+            int32_t answer = call(r, direction, card, length, frames, (size_t)count, MOST_ROOM);
+            if ((answer == -15) != (count > most[direction]))
+                fail("%ld frames, and the answer is %d", count, (int)answer);
+            call(r, direction, card, length, frames, (size_t)count, (size_t)below(r, MOST_FRAMES)); /* 13, or 15 before it */
+            frames[below(r, (int)count)] |= 0x80;
+            call(r, direction, card, length, frames, (size_t)count, MOST_ROOM); /* 11, or 15 before it */
+        }
+    }
+    free(frames);
+}
+
+/* ---- The bench's own cases, with the answers that document 01 states ---- */
+
+static void expect(struct random *r, enum direction direction, const struct fields *fields, const uint8_t *input,
+                   size_t input_length, int32_t answer, const uint8_t *output)
+{
+    uint8_t card[MOST_CARD_BYTES];
+    size_t length = write_card(fields, 0, 0, card);
+    int32_t given = call(r, direction, card, length, input, input_length, 8);
+    if (given != answer || (answer > 0 && memcmp(expected, output, (size_t)answer) != 0))
+        fail("the bench's case answers %d or gives other frames", (int)given);
+}
+
+static void expect_card(struct random *r, const struct fields *fields, int refusal)
+{
+    uint8_t card[MOST_CARD_BYTES];
+    size_t length = write_card(fields, 0, 0, card);
+    int32_t given = call(r, RECEIVE, card, length, NULL, 0, 0);
+    if (given != -refusal)
+        fail("the bench's card is answered by %d", (int)given);
+}
+
+static void expect_bytes(struct random *r, const uint8_t *card, size_t length, int refusal, size_t offset)
+{
+    struct fields fields;
+    struct card_answer answer = reference_read_card(card, length, &fields);
+    int32_t given = call(r, RECEIVE, card, length, NULL, 0, 0);
+    if (answer.refusal != refusal || answer.offset != offset || given != -refusal)
+        fail("the bench's card is refused by %d at %zu", answer.refusal, answer.offset);
+}
+
+static void bench_bursts(struct random *r)
+{
+    struct fields P, Q;
+    bench_card('P', &P);
+    bench_card('Q', &Q);
+    expect(r, SEND, &P, (const uint8_t[]){1, 0, 1}, 3, 4, (const uint8_t[]){3, 2, 3, 2});
+    expect(r, RECEIVE, &P, (const uint8_t[]){3, 3, 3, 2}, 4, 3, (const uint8_t[]){1, 0, 1});
+    expect(r, RECEIVE, &P, (const uint8_t[]){2, 2, 0, 0}, 4, 3, (const uint8_t[]){1, 0, 0});
+    expect(r, RECEIVE, &Q, (const uint8_t[]){2, 2, 0, 0}, 4, 1, (const uint8_t[]){1});
+    expect(r, RECEIVE, &P, (const uint8_t[]){3}, 1, 0, NULL);
+    expect(r, RECEIVE, &P, NULL, 0, 0, NULL);
+}
+
+static void bench_cards(struct random *r)
+{
+    static const uint8_t bytes_of_P[21] = {0, 7, 1, 1, 0, 3, 0, 0, 0, 2, 1, 1, 0, 0, 0, 1, 2, 0, 0, 0, 0};
+    struct fields fields;
+    expect_bytes(r, bytes_of_P, 20, 0, 0);
+    expect_bytes(r, bytes_of_P, 19, 1, 19);
+    expect_bytes(r, bytes_of_P, 21, 10, 20);
+    bench_card('R', &fields);
+    expect_card(r, &fields, 0);
+    fields.check[1][4][1][1] = 0; /* s5 for s1 + s5 */
+    expect_card(r, &fields, 9);
+    bench_card('Q', &fields);
+    fields.J[1] = 4;
+    fields.check[1][4][1][2] = 1; /* s2 as a fourth check */
+    expect_card(r, &fields, 8);
+    bench_card('T', &fields);
+    expect_card(r, &fields, 0);
+    fields.check[1][2][1][1] = 0; /* s0, s2 for stream 1 */
+    fields.check[1][2][1][2] = 1;
+    expect_card(r, &fields, 8);
+    bench_card('P', &fields);
+    fields.m = 31;
+    expect_card(r, &fields, 0);
+    fields.m = 32;
+    expect_card(r, &fields, 4);
+    bench_card('P', &fields);
+    fields.J[1] = 0;
+    expect_card(r, &fields, 7);
+    fields.J[1] = 17;
+    expect_card(r, &fields, 7);
+}
+
+/* With length 0 a pointer may be null. */
+static void null_pointers(void)
+{
+    static const uint8_t card_of_m_0[] = {0, 0, 0, 1, 0, 1, 0, 0, 0, 1, 1, 1, 0, 0, 0};
+    uint8_t frame = 3, out = 9;
+    now.card = card_of_m_0, now.card_length = sizeof card_of_m_0;
+    now.input = NULL, now.input_length = 0;
+    if (burst_send(NULL, 0, NULL, 0, NULL, 0) != -1 || burst_receive(NULL, 0, NULL, 0, NULL, 0) != -1)
+        fail("no card at all is not refused with 1");
+    if (burst_send(card_of_m_0, sizeof card_of_m_0, NULL, 0, NULL, 0) != 0 ||
+        burst_receive(card_of_m_0, sizeof card_of_m_0, NULL, 0, NULL, 0) != 0)
+        fail("an empty burst at m = 0 does not answer 0");
+    if (burst_receive(card_of_m_0, sizeof card_of_m_0, &frame, 1, NULL, 0) != -13 ||
+        burst_receive(card_of_m_0, sizeof card_of_m_0, &frame, 1, &out, 1) != 1 || out != 1)
+        fail("one frame at m = 0 does not come out");
+}
+
+static void bench_round(struct random *r)
+{
+    bench_bursts(r);
+    bench_cards(r);
+    null_pointers();
+}
+
+/* ---- The run ---- */
+
+/* Round by round, so that each can be run alone: its random numbers depend on the seed and its own number only. */
+static int run_round(long round)
+{
+    struct random r = {now.seed * 1000003u + (uint64_t)round};
+    now.round = round;
+    long turn = round;
+    if (turn < RANDOM_CARDS)
+        return random_card_round(&r), 1;
+    turn -= RANDOM_CARDS;
+    if (turn < DAMAGED_CARDS)
+        return damaged_card_round(&r, (int)turn), 1;
+    turn -= DAMAGED_CARDS;
+    if (turn < 8)
+        return every_length_round(&r, (int)turn), 1;
+    turn -= 8;
+    if (turn < 2)
+        return limit_round(&r, "PT"[turn]), 1;
+    turn -= 2;
+    if (turn == 0)
+        return bench_round(&r), 1;
+    if (turn == 1)
+        return longest_card_round(&r), 1;
+    return 0;
+}
+
+static void print_counts(void)
+{
+    printf("%ld calls; %ld cards, %ld of them accepted; refused:", counts.calls, counts.cards, counts.cards_accepted);
+    for (int number = 1; number <= 10; number++)
+        printf(" %d: %ld", number, counts.cards_refused[number]);
+    printf("\ncalls refused:");
+    for (int number = 1; number < 32; number++)
+        if (counts.refused[number])
+            printf(" %d: %ld", number, counts.refused[number]);
+    printf("\n%ld streams: %ld without a wrong digit, %ld corrected, %ld beyond (%ld with wrong digits had to come out as sent)\n",
+           counts.streams, counts.clean, counts.corrected, counts.beyond, counts.correctable);
+}
+
+/* A run that did not try everything is no proof of agreement. */
+static int tried_enough(void)
+{
+    int enough = 1;
+    for (int number = 1; number <= 15; number++) {
+        int by_session = number == 12 || number == 14;
+        if (!by_session && counts.refused[number] == 0) {
+            printf("FAILED: refusal %d never occurred\n", number);
+            enough = 0;
+        }
+    }
+    if (counts.most_checks < MOST_CHECKS || counts.cards < 20000 || counts.streams < 5000 || counts.corrected < 500 || counts.beyond < 500) {
+        printf("FAILED: too few cards, streams or checks\n");
+        enough = 0;
+    }
+    return enough;
+}
+
+int main(int argc, char **argv)
+{
+    now.seed = argc > 1 ? strtoull(argv[1], NULL, 10) : 1;
+    make_arena(&card_arena, 2 * MOST_CARD_BYTES, READ_ONLY);
+    make_arena(&input_arena, MOST_ROOM, READ_ONLY);
+    make_arena(&output_arena, MOST_ROOM, READ_WRITE);
+    expected = malloc(MOST_ROOM);
+    signal(SIGSEGV, reached_outside);
+    signal(SIGBUS, reached_outside);
+    if (argc > 2) {
+        run_round(strtol(argv[2], NULL, 10));
+        print_counts();
+        return 0;
+    }
+    printf("seed %llu\n", (unsigned long long)now.seed);
+    for (long round = 0; run_round(round); round++)
+        ;
+    print_counts();
+    return tried_enough() ? 0 : 1;
+}

@@ -1,0 +1,543 @@
+#include "reference.h"
+
+#include <math.h>
+#include <stdio.h>
+#include <stdlib.h>
+#include <string.h>
+
+/* Digit a of a number, the lowest first. */
+static int digit_of(uint32_t number, int a)
+{
+    for (; a > 0; a--)
+        number /= 2;
+    return (int)(number % 2);
+}
+
+/* ---- The card ("The card", "Refused because of the input") ---- */
+
+/* Reading runs front to back: the place reached, and the first fault met. */
+struct reader {
+    const uint8_t *bytes;
+    size_t length, at;
+    struct card_answer fault;
+};
+
+/* The answers of the reading functions below: whether reading goes on. */
+enum { STOP = 0, GO_ON = 1 };
+
+static int refuse(struct reader *r, int number, size_t offset)
+{
+    r->fault.refusal = number;
+    r->fault.offset = offset;
+    return STOP;
+}
+
+/* A little-endian integer of `size` bytes. A field cut short comes before its value. */
+static int read_integer(struct reader *r, size_t size, uint32_t *value)
+{
+    if (r->length - r->at < size)
+        return refuse(r, 1, r->length);
+    uint32_t worth = 1;
+    *value = 0;
+    for (size_t b = 0; b < size; b++) {
+        *value += worth * r->bytes[r->at + b];
+        worth *= 256;
+    }
+    r->at += size;
+    return GO_ON;
+}
+
+/* A one-byte field that must lie in low to high, else `refusal` at its offset. */
+static int read_field(struct reader *r, int low, int high, int refusal, int *value)
+{
+    size_t start = r->at;
+    uint32_t byte;
+    if (!read_integer(r, 1, &byte))
+        return STOP;
+    *value = (int)byte;
+    return *value < low || *value > high ? refuse(r, refusal, start) : GO_ON;
+}
+
+/* A map of `size` bytes over `streams` places: a digit for each place, and none set beyond them. */
+static int read_map(struct reader *r, size_t size, int streams, int stands[])
+{
+    size_t start = r->at;
+    uint32_t map;
+    if (!read_integer(r, size, &map))
+        return STOP;
+    for (int s = 0; s < (int)size * 8; s++) {
+        stands[s] = digit_of(map, s);
+        if (s >= streams && stands[s])
+            return refuse(r, 5, start);
+    }
+    return GO_ON;
+}
+
+/* A standing mask: the digits 0 to m, at least one of them 1, and no digit above m. */
+static int read_mask(struct reader *r, int m, int digits[MOST_MEMORY + 1])
+{
+    size_t start = r->at;
+    uint32_t mask;
+    if (!read_integer(r, 4, &mask))
+        return STOP;
+    int ones = 0, ones_above = 0;
+    for (int a = 0; a <= 31; a++) {
+        int digit = digit_of(mask, a);
+        if (a <= m) {
+            digits[a] = digit;
+            ones += digit;
+        } else {
+            ones_above += digit;
+        }
+    }
+    return ones == 0 || ones_above > 0 ? refuse(r, 6, start) : GO_ON;
+}
+
+/* Byte 0, the card's number, k, n, m. */
+static int read_sizes(struct reader *r, struct fields *card)
+{
+    int stands[8];
+    if (!read_map(r, 1, 2, stands))
+        return STOP;
+    if (!read_field(r, 0, 255, 0, &card->number))
+        return STOP;
+    card->k = 1;
+    if (stands[0] && !read_field(r, 1, 4, 2, &card->k))
+        return STOP;
+    card->n = 2;
+    if (stands[1]) {
+        if (!read_field(r, card->k + 1, 8, 3, &card->n))
+            return STOP;
+    } else if (card->n < card->k + 1) {
+        return refuse(r, 3, 0);
+    }
+    card->p = card->n - card->k;
+    return read_field(r, 0, 31, 4, &card->m);
+}
+
+static int read_generators(struct reader *r, struct fields *card)
+{
+    int stands[16];
+    if (!read_map(r, 2, card->k * card->p, stands))
+        return STOP;
+    for (int i = 1; i <= card->k; i++)
+        for (int j = 1; j <= card->p; j++)
+            if (stands[(i - 1) * card->p + (j - 1)] && !read_mask(r, card->m, card->g[i][j]))
+                return STOP;
+    return GO_ON;
+}
+
+/* Whether check q touches an error, other than that of its own digit, that an earlier one of its stream touches. */
+static int clashes(const struct fields *card, int i, int q, const struct touched by_check[])
+{
+    for (int earlier = 1; earlier < q; earlier++)
+        for (int b = 0; b <= card->m; b++)
+            for (int s = 1; s <= card->n; s++)
+                if (by_check[q].error[b][s] && by_check[earlier].error[b][s] && !(b == 0 && s == i))
+                    return 1;
+    return 0;
+}
+
+static int read_check(struct reader *r, struct fields *card, int i, int q, struct touched by_check[])
+{
+    size_t start = r->at;
+    int stands[8];
+    if (!read_map(r, 1, card->p, stands))
+        return STOP;
+    for (int j = 1; j <= card->p; j++)
+        if (stands[j - 1] && !read_mask(r, card->m, card->check[i][q][j]))
+            return STOP;
+    by_check[q] = reference_touched(card, i, q);
+    if (!by_check[q].error[0][i])
+        return refuse(r, 8, start);
+    if (clashes(card, i, q, by_check))
+        return refuse(r, 9, start);
+    return GO_ON;
+}
+
+static int read_checks(struct reader *r, struct fields *card)
+{
+    for (int i = 1; i <= card->k; i++) {
+        struct touched by_check[MOST_CHECKS + 1];
+        if (!read_field(r, 1, 16, 7, &card->J[i]))
+            return STOP;
+        for (int q = 1; q <= card->J[i]; q++)
+            if (!read_check(r, card, i, q, by_check))
+                return STOP;
+    }
+    return GO_ON;
+}
+
+struct card_answer reference_read_card(const uint8_t *bytes, size_t length, struct fields *card)
+{
+    struct reader r = {bytes, length, 0, {0, 0}};
+    memset(card, 0, sizeof *card);
+    if (read_sizes(&r, card) && read_generators(&r, card) && read_checks(&r, card) && r.at < length)
+        refuse(&r, 10, r.at);
+    return r.fault;
+}
+
+/* ---- The code and its checks ("The code", "Checks") ---- */
+
+/* An information error (b, i) is in the syndrome s(a, j) if g(i, j, a - b) is 1; the check is the sum of its
+ * syndromes, and touches the errors that are in an odd number of them. */
+struct touched reference_touched(const struct fields *card, int i, int q)
+{
+    struct touched touched;
+    memset(&touched, 0, sizeof touched);
+    for (int j = 1; j <= card->p; j++)
+        for (int a = 0; a <= card->m; a++) {
+            if (!card->check[i][q][j][a])
+                continue;
+            touched.error[a][card->k + j] = 1;
+            for (int stream = 1; stream <= card->k; stream++)
+                for (int b = 0; b <= a; b++)
+                    touched.error[b][stream] += card->g[stream][j][a - b];
+        }
+    for (int b = 0; b <= card->m; b++)
+        for (int stream = 1; stream <= card->k; stream++)
+            touched.error[b][stream] %= 2;
+    return touched;
+}
+
+/* Parity stream j at u, from the information digits of the frames; those before time 0 are zero. */
+static int parity(const struct fields *card, const struct frame *frames, long u, int j)
+{
+    int sum = 0;
+    for (int i = 1; i <= card->k; i++)
+        for (int a = 0; a <= card->m; a++)
+            if (u - a >= 0)
+                sum += card->g[i][j][a] * frames[u - a].digit[i];
+    return sum % 2;
+}
+
+/* s(u, j). */
+static int syndrome(const struct fields *card, const struct frame *received, long u, int j)
+{
+    return (received[u].digit[card->k + j] + parity(card, received, u, j)) % 2;
+}
+
+/* s(u, j), with every digit error decided for times before `now` taken out of it. */
+static int cleared(const struct fields *card, const struct frame *received, const struct frame *decided, long now,
+                   long u, int j)
+{
+    int sum = syndrome(card, received, u, j);
+    for (int i = 1; i <= card->k; i++)
+        for (int a = 0; a <= card->m; a++)
+            if (u - a >= 0 && u - a < now)
+                sum += card->g[i][j][a] * decided[u - a].digit[i];
+    return sum % 2;
+}
+
+/* Check q of stream i, used at u. */
+static int check_at(const struct fields *card, const struct frame *received, const struct frame *decided, int i, int q,
+                    long u)
+{
+    int sum = 0;
+    for (int j = 1; j <= card->p; j++)
+        for (int a = 0; a <= card->m; a++)
+            if (card->check[i][q][j][a])
+                sum += cleared(card, received, decided, u, u + a, j);
+    return sum % 2;
+}
+
+/* Decides the errors of frame u, all streams from the errors of earlier frames only, and gives the frame handed out. */
+static struct frame decide(const struct fields *card, const struct frame *received, struct frame *decided, long u)
+{
+    struct frame out;
+    memset(&out, 0, sizeof out);
+    memset(&decided[u], 0, sizeof decided[u]);
+    for (int i = 1; i <= card->k; i++) {
+        int ones = 0;
+        for (int q = 1; q <= card->J[i]; q++)
+            ones += check_at(card, received, decided, i, q, u);
+        decided[u].digit[i] = 2 * ones > card->J[i] ? 1 : 0;
+        out.digit[i] = (received[u].digit[i] + decided[u].digit[i]) % 2;
+    }
+    return out;
+}
+
+/* ---- Frames as bytes and readings ("Readings and bursts") ---- */
+
+static struct frame frame_of_byte(uint8_t byte)
+{
+    struct frame frame;
+    memset(&frame, 0, sizeof frame);
+    for (int i = 1; i <= MOST_STREAMS; i++)
+        frame.digit[i] = digit_of(byte, i - 1);
+    return frame;
+}
+
+static uint8_t byte_of_frame(const struct frame *frame)
+{
+    int byte = 0, worth = 1;
+    for (int i = 1; i <= MOST_STREAMS; i++) {
+        byte += worth * frame->digit[i];
+        worth *= 2;
+    }
+    return (uint8_t)byte;
+}
+
+static int digit_beyond(const struct frame *frame, int streams)
+{
+    for (int i = streams + 1; i <= MOST_STREAMS; i++)
+        if (frame->digit[i])
+            return 1;
+    return 0;
+}
+
+/* A frame from readings, those after the n-th not looked at; 12, or 0 for no refusal. */
+static int frame_of_readings(const struct reading readings[8], int n, struct frame *frame)
+{
+    memset(frame, 0, sizeof *frame);
+    for (int i = 1; i <= n; i++) {
+        const struct reading *reading = &readings[i - 1];
+        if (reading->erased)
+            continue;
+        if (!isfinite(reading->level))
+            return 12;
+        if (reading->level > 0)
+            frame->digit[i] = 1;
+    }
+    return 0;
+}
+
+/* ---- Bursts ---- */
+
+static void *allocate(size_t count, size_t size)
+{
+    void *memory = calloc(count == 0 ? 1 : count, size);
+    if (memory == NULL) {
+        fprintf(stderr, "reference: no memory\n");
+        exit(2);
+    }
+    return memory;
+}
+
+/* The frames of a burst; a refusal, 11, if one of them has a digit beyond its streams, else 0. */
+static int frames_of_bytes(const uint8_t *bytes, size_t length, int streams, struct frame *frames)
+{
+    for (size_t u = 0; u < length; u++) {
+        frames[u] = frame_of_byte(bytes[u]);
+        if (digit_beyond(&frames[u], streams))
+            return 11;
+    }
+    return 0;
+}
+
+/* Fills in the parity digits of frame u. */
+static void add_parity(const struct fields *card, struct frame *frames, long u)
+{
+    for (int j = 1; j <= card->p; j++)
+        frames[u].digit[card->k + j] = parity(card, frames, u, j);
+}
+
+int32_t reference_burst_send(const uint8_t *card_bytes, size_t card_length, const uint8_t *input, size_t input_length,
+                             uint8_t *output, size_t output_length)
+{
+    struct fields card;
+    int refusal = reference_read_card(card_bytes, card_length, &card).refusal;
+    if (refusal)
+        return -refusal;
+    size_t count = input_length + (size_t)card.m; /* with the tail */
+    if (count > MOST_FRAMES)
+        return -15;
+    if (output_length < count)
+        return -13;
+    struct frame *frames = allocate(count, sizeof *frames);
+    refusal = frames_of_bytes(input, input_length, card.k, frames);
+    for (size_t u = 0; u < count && !refusal; u++) {
+        add_parity(&card, frames, (long)u);
+        output[u] = byte_of_frame(&frames[u]);
+    }
+    free(frames);
+    return refusal ? -refusal : (int32_t)count;
+}
+
+int32_t reference_burst_receive(const uint8_t *card_bytes, size_t card_length, const uint8_t *input,
+                                size_t input_length, uint8_t *output, size_t output_length)
+{
+    struct fields card;
+    int refusal = reference_read_card(card_bytes, card_length, &card).refusal;
+    if (refusal)
+        return -refusal;
+    if (input_length > MOST_FRAMES)
+        return -15;
+    size_t count = input_length > (size_t)card.m ? input_length - (size_t)card.m : 0;
+    if (output_length < count)
+        return -13;
+    struct frame *received = allocate(input_length, sizeof *received);
+    struct frame *decided = allocate(count, sizeof *decided);
+    refusal = frames_of_bytes(input, input_length, card.n, received);
+    for (size_t u = 0; u < count && !refusal; u++) {
+        struct frame out = decide(&card, received, decided, (long)u);
+        output[u] = byte_of_frame(&out);
+    }
+    free(received);
+    free(decided);
+    return refusal ? -refusal : (int32_t)count;
+}
+
+/* ---- What comes out as sent ---- */
+
+int reference_correctable(const struct fields *card, const uint8_t *sent, const uint8_t *received, long count)
+{
+    for (int i = 1; i <= card->k; i++) {
+        int touched[MOST_MEMORY + 1][MOST_STREAMS + 1] = {{0}};
+        for (int q = 1; q <= card->J[i]; q++) {
+            struct touched by_check = reference_touched(card, i, q);
+            for (int b = 0; b <= card->m; b++)
+                for (int s = 1; s <= card->n; s++)
+                    if (by_check.error[b][s])
+                        touched[b][s] = 1; /* each counted once */
+        }
+        for (long u = 0; u < count; u++) {
+            int wrong = 0;
+            for (int b = 0; b <= card->m; b++)
+                for (int s = 1; s <= card->n; s++)
+                    if (touched[b][s] && digit_of(sent[u + b], s - 1) != digit_of(received[u + b], s - 1))
+                        wrong++;
+            if (wrong > card->J[i] / 2)
+                return 0;
+        }
+    }
+    return 1;
+}
+
+/* ---- Sessions ("Refused because of the state", the link figure) ---- */
+
+static struct frame *grow(struct frame *frames, long room)
+{
+    frames = realloc(frames, (size_t)room * sizeof *frames);
+    if (frames == NULL) {
+        fprintf(stderr, "reference: no memory\n");
+        exit(2);
+    }
+    return frames;
+}
+
+static struct answer refused(int number)
+{
+    struct answer answer = {REFUSED, number};
+    return answer;
+}
+
+static struct answer frame_given(const struct frame *frame)
+{
+    struct answer answer = {FRAME, byte_of_frame(frame)};
+    return answer;
+}
+
+void reference_open_receiving(struct receiving *session, const struct fields *card)
+{
+    memset(session, 0, sizeof *session);
+    session->card = *card;
+}
+
+void reference_close_receiving(struct receiving *session)
+{
+    free(session->received);
+    free(session->decided);
+}
+
+/* The refusals that come before a look at the frame: 14, 15, or 0 for none. */
+static int receiving_refusal(const struct receiving *session, int number)
+{
+    if (number != session->card.number)
+        return 14;
+    return session->count == MOST_FRAMES ? 15 : 0;
+}
+
+/* Takes a frame: the first m give 'waiting', each later one the frame m before it. */
+static struct answer take(struct receiving *session, const struct frame *frame)
+{
+    if (session->count == session->room) {
+        session->room = 2 * session->room + 64;
+        session->received = grow(session->received, session->room);
+        session->decided = grow(session->decided, session->room);
+    }
+    session->received[session->count] = *frame;
+    session->count++;
+    long u = session->count - 1 - session->card.m;
+    if (u < 0) {
+        struct answer waiting = {WAITING, 0};
+        return waiting;
+    }
+    struct frame out = decide(&session->card, session->received, session->decided, u);
+    return frame_given(&out);
+}
+
+struct answer reference_receive_byte(struct receiving *session, int number, uint8_t byte)
+{
+    int refusal = receiving_refusal(session, number);
+    if (refusal)
+        return refused(refusal);
+    struct frame frame = frame_of_byte(byte);
+    return digit_beyond(&frame, session->card.n) ? refused(11) : take(session, &frame);
+}
+
+struct answer reference_receive_readings(struct receiving *session, int number, const struct reading readings[8])
+{
+    int refusal = receiving_refusal(session, number);
+    if (refusal)
+        return refused(refusal);
+    struct frame frame;
+    refusal = frame_of_readings(readings, session->card.n, &frame);
+    return refusal ? refused(refusal) : take(session, &frame);
+}
+
+/* The ones among the syndromes of received frames later than the last frame handed out, feedback taken out. */
+long reference_link_figure(const struct receiving *session)
+{
+    const struct fields *card = &session->card;
+    long handed_out = session->count > card->m ? session->count - card->m : 0;
+    long ones = 0;
+    for (long u = handed_out; u < session->count; u++)
+        for (int j = 1; j <= card->p; j++)
+            ones += cleared(card, session->received, session->decided, handed_out, u, j);
+    return ones;
+}
+
+void reference_open_sending(struct sending *session, const struct fields *card)
+{
+    memset(session, 0, sizeof *session);
+    session->card = *card;
+}
+
+void reference_close_sending(struct sending *session)
+{
+    free(session->sent);
+}
+
+/* Sends one frame whose information digits are given. */
+static struct answer send_frame(struct sending *session, const struct frame *information)
+{
+    if (session->count == session->room) {
+        session->room = 2 * session->room + 64;
+        session->sent = grow(session->sent, session->room);
+    }
+    session->sent[session->count] = *information;
+    add_parity(&session->card, session->sent, session->count);
+    session->count++;
+    return frame_given(&session->sent[session->count - 1]);
+}
+
+struct answer reference_send(struct sending *session, uint8_t byte)
+{
+    if (session->tail > 0)
+        return refused(16);
+    if (MOST_FRAMES - (session->count + 1) < session->card.m)
+        return refused(15);
+    struct frame information = frame_of_byte(byte);
+    return digit_beyond(&information, session->card.k) ? refused(11) : send_frame(session, &information);
+}
+
+struct answer reference_send_tail(struct sending *session)
+{
+    if (session->tail == session->card.m)
+        return refused(17);
+    struct frame zeros;
+    memset(&zeros, 0, sizeof zeros);
+    session->tail++;
+    return send_frame(session, &zeros);
+}

@@ -1,0 +1,101 @@
+/* The second opinion: link cards, sending and threshold receiving, written from document 01
+ * (the project's scope), before its author looked at the library's code. Where the document leaves a point
+ * open, the project's DESIGN.md had been read, so on those points it is not a second reading.
+ *
+ * It is made to be read, not to be fast. A digit is an int that is 0 or 1, a sum of digits is a
+ * sum with one `% 2` at its end, and a stream keeps every frame from time 0 on: no masks, no
+ * registers, nothing shifted. Streams, parity streams and checks are counted from 1, as in the
+ * document, so place 0 of every table is unused. */
+#ifndef REFERENCE_H
+#define REFERENCE_H
+
+#include <stddef.h>
+#include <stdint.h>
+
+enum {
+    MOST_INFORMATION = 4, /* k */
+    MOST_STREAMS = 8,     /* n */
+    MOST_PARITY = 7,      /* p = n - k, k at least 1 */
+    MOST_MEMORY = 31,     /* m */
+    MOST_CHECKS = 16,     /* J */
+    MOST_CARD_BYTES = 1163,
+    MOST_FRAMES = 1048576
+};
+
+/* What a link card says. */
+struct fields {
+    int number;
+    int k, n, p, m;
+    int g[MOST_INFORMATION + 1][MOST_PARITY + 1][MOST_MEMORY + 1];      /* g(i, j, a) at [i][j][a] */
+    int J[MOST_INFORMATION + 1];                                        /* checks of stream i */
+    int check[MOST_INFORMATION + 1][MOST_CHECKS + 1][MOST_PARITY + 1][MOST_MEMORY + 1];
+    /* the pair (a, j) is in check q of stream i: 1 at [i][q][j][a] */
+};
+
+/* A refusal's number, 0 for none, and for a card its byte offset. */
+struct card_answer {
+    int refusal;
+    size_t offset;
+};
+
+/* One digit for each stream, 1 to n; zero beyond. */
+struct frame {
+    int digit[MOST_STREAMS + 1];
+};
+
+/* The errors that a check touches: information errors (b, i) at [b][i], parity errors (b, j) at [b][k + j]. */
+struct touched {
+    int error[MOST_MEMORY + 1][MOST_STREAMS + 1];
+};
+
+struct card_answer reference_read_card(const uint8_t *bytes, size_t length, struct fields *card);
+
+struct touched reference_touched(const struct fields *card, int i, int q);
+
+/* The bursts, called as the library's are. */
+int32_t reference_burst_send(const uint8_t *card, size_t card_length, const uint8_t *input, size_t input_length,
+                             uint8_t *output, size_t output_length);
+int32_t reference_burst_receive(const uint8_t *card, size_t card_length, const uint8_t *input, size_t input_length,
+                                uint8_t *output, size_t output_length);
+
+/* The notice's third term: 1 if for each of the `count` information frames' digits the wrong digits among
+ * those that its checks touch are at most half of J. sent and received are whole streams, count + m frame bytes. */
+int reference_correctable(const struct fields *card, const uint8_t *sent, const uint8_t *received, long count);
+
+/* The sessions. */
+
+struct answer {
+    enum { WAITING, FRAME, REFUSED } kind;
+    int value; /* the frame byte, or the refusal's number */
+};
+
+struct reading {
+    int erased; /* 1: the level is not looked at */
+    float level;
+};
+
+struct receiving {
+    struct fields card;
+    struct frame *received, *decided; /* from time 0; an error is decided for the frames handed out only */
+    long count, room;                 /* frames received */
+};
+
+struct sending {
+    struct fields card;
+    struct frame *sent; /* from time 0, the tail included */
+    long count, room;
+    int tail; /* tail frames that are out */
+};
+
+void reference_open_receiving(struct receiving *session, const struct fields *card);
+struct answer reference_receive_byte(struct receiving *session, int number, uint8_t byte);
+struct answer reference_receive_readings(struct receiving *session, int number, const struct reading readings[8]);
+long reference_link_figure(const struct receiving *session);
+void reference_close_receiving(struct receiving *session);
+
+void reference_open_sending(struct sending *session, const struct fields *card);
+struct answer reference_send(struct sending *session, uint8_t information);
+struct answer reference_send_tail(struct sending *session);
+void reference_close_sending(struct sending *session);
+
+#endif

@@ -1,0 +1,91 @@
+/* Measures how much stack a call of the library takes, and fails if it is more than burst.h says.
+ * (Built without sanitizers: they use the stack of whom they watch.) */
+#define _GNU_SOURCE
+#include "burst.h"
+
+#include "cards.h"
+#include "random.h"
+
+#include <stdio.h>
+#include <string.h>
+#include <ucontext.h>
+
+enum { STACK = 131072, PAINT = 0x5a, FRAMES = 64 };
+
+static uint8_t card[MOST_CARD_BYTES];
+static size_t card_length;
+static uint8_t frames[FRAMES], output[FRAMES + MOST_MEMORY];
+static int32_t answer;
+
+/* A call is made on a stack of its own, painted beforehand: what is no longer paint was used. */
+static ucontext_t caller, callee;
+static uint8_t painted[STACK];
+
+static void call_nothing(void)
+{
+}
+
+static void call_send(void)
+{
+    answer = burst_send(card, card_length, frames, FRAMES, output, sizeof output);
+}
+
+static void call_receive(void)
+{
+    answer = burst_receive(card, card_length, frames, FRAMES, output, sizeof output);
+}
+
+static long painted_over_by(void (*function)(void))
+{
+    memset(painted, PAINT, sizeof painted);
+    getcontext(&callee);
+    callee.uc_stack.ss_sp = painted;
+    callee.uc_stack.ss_size = sizeof painted;
+    callee.uc_link = &caller;
+    makecontext(&callee, function, 0);
+    swapcontext(&caller, &callee);
+    long unused = 0;
+    while (unused < STACK && painted[unused] == PAINT)
+        unused++;
+    return STACK - unused;
+}
+
+static long stack_of(void (*function)(void))
+{
+    return painted_over_by(function) - painted_over_by(call_nothing);
+}
+
+/* Cards of every shape: accepted ones, and ones that are cut short. */
+static void random_bytes(struct random *r)
+{
+    struct fields fields;
+    random_card(r, &fields);
+    card_length = write_card(&fields, 0, 0, card);
+    if (one_in(r, 4))
+        card_length = (size_t)below(r, (int)card_length);
+    for (int u = 0; u < FRAMES; u++)
+        frames[u] = (uint8_t)below(r, 1 << fields.k);
+}
+
+int main(void)
+{
+    struct random r = {1};
+    long send = 0, receive = 0;
+    for (int turn = 0; turn < 20; turn++) { /* the loader binds memcpy and memset at their first call, on our stack */
+        random_bytes(&r);
+        call_send();
+        call_receive();
+    }
+    for (int turn = 0; turn < 300; turn++) {
+        random_bytes(&r);
+        long sending = stack_of(call_send), receiving = stack_of(call_receive);
+        send = sending > send ? sending : send;
+        receive = receiving > receive ? receiving : receive;
+    }
+    printf("stack: burst_send %ld bytes, burst_receive %ld, burst.h says %d\n", send, receive, BURST_STACK_BYTES);
+    if (send > BURST_STACK_BYTES || receive > BURST_STACK_BYTES) {
+        printf("FAILED: more stack than burst.h says\n");
+        return 1;
+    }
+    return 0;
+}

@@ -1,0 +1,132 @@
+#include "trace.h"
+
+#include "reference.h"
+
+#include <stdarg.h>
+#include <stdio.h>
+#include <stdlib.h>
+#include <string.h>
+
+static void add_line(struct text *text, const char *format, ...)
+{
+    if (text->room - text->length < MOST_LINE) {
+        text->room = 2 * text->room + 4096;
+        text->bytes = realloc(text->bytes, text->room);
+        if (text->bytes == NULL) {
+            fprintf(stderr, "trace: no memory\n");
+            exit(2);
+        }
+    }
+    va_list arguments;
+    va_start(arguments, format);
+    int written = vsnprintf(text->bytes + text->length, MOST_LINE, format, arguments);
+    va_end(arguments);
+    text->length += (size_t)written;
+    text->bytes[text->length++] = '\n';
+}
+
+static void add_answer(struct text *text, struct answer answer, struct trace_counts *counts)
+{
+    switch (answer.kind) {
+    case WAITING:
+        counts->waiting++;
+        add_line(text, "waiting");
+        break;
+    case FRAME:
+        counts->frames++;
+        add_line(text, "frame %d", answer.value);
+        break;
+    default:
+        counts->refused[answer.value]++;
+        add_line(text, "refused %d", answer.value);
+        break;
+    }
+}
+
+/* Eight readings of five bytes: a tag, 0 for a level and 1 for erased, and the level's four bytes, the lowest first.
+ * Gives 0 for another tag, which makes the record one of another kind, also where the reading is not looked at. */
+static int readings_of(const uint8_t *bytes, struct reading readings[8])
+{
+    for (int s = 0; s < 8; s++) {
+        const uint8_t *reading = bytes + 5 * s;
+        if (reading[0] > 1)
+            return 0;
+        uint32_t pattern = reading[1] + 256u * reading[2] + 65536u * reading[3] + 16777216u * reading[4];
+        readings[s].erased = reading[0];
+        memcpy(&readings[s].level, &pattern, sizeof pattern);
+    }
+    return 1;
+}
+
+/* Does what one record asks. Gives its length, or 0 for a record that is cut short or of another kind. */
+static size_t one_record(const uint8_t *record, size_t left, struct receiving *receiving, struct sending *sending,
+                         struct text *text, struct trace_counts *counts)
+{
+    struct reading readings[8];
+    switch (record[0]) {
+    case 'b':
+        if (left < 3)
+            return 0;
+        add_answer(text, reference_receive_byte(receiving, record[1], record[2]), counts);
+        return 3;
+    case 'r':
+        if (left < 42 || !readings_of(record + 2, readings))
+            return 0;
+        add_answer(text, reference_receive_readings(receiving, record[1], readings), counts);
+        return 42;
+    case 'f':
+        counts->figures++;
+        add_line(text, "figure %ld", reference_link_figure(receiving));
+        return 1;
+    case 'i':
+        if (left < 2)
+            return 0;
+        add_answer(text, reference_send(sending, record[1]), counts);
+        return 2;
+    case 't':
+        add_answer(text, reference_send_tail(sending), counts);
+        return 1;
+    default:
+        return 0;
+    }
+}
+
+static void all_records(const uint8_t *records, size_t length, const struct fields *card, struct text *text,
+                        struct trace_counts *counts)
+{
+    struct receiving receiving;
+    struct sending sending;
+    reference_open_receiving(&receiving, card);
+    reference_open_sending(&sending, card);
+    for (size_t at = 0; at < length;) {
+        size_t size = one_record(records + at, length - at, &receiving, &sending, text, counts);
+        if (size == 0) {
+            add_line(text, "bad record");
+            break;
+        }
+        counts->records++;
+        at += size;
+    }
+    reference_close_receiving(&receiving);
+    reference_close_sending(&sending);
+}
+
+void reference_trace(const uint8_t *input, size_t length, struct text *text, struct trace_counts *counts)
+{
+    struct fields card;
+    size_t stated = length < 2 ? 0 : input[0] + 256u * input[1];
+    size_t after_length = length < 2 ? length : 2;
+    if (length > MOST_TRACE_BYTES || stated > MOST_STATED_LENGTH) {
+        add_line(text, "input too long");
+        return;
+    }
+    size_t there = length - after_length < stated ? length - after_length : stated;
+    struct card_answer answer = reference_read_card(input + after_length, there, &card);
+    if (answer.refusal) {
+        counts->cards_refused[answer.refusal]++;
+        add_line(text, "refused %d at %zu", answer.refusal, answer.offset);
+        return;
+    }
+    add_line(text, "open");
+    all_records(input + after_length + there, length - after_length - there, &card, text, counts);
+}
