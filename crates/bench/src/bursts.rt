@@ -1,23 +1,20 @@
-// A whole burst on its line: what the call answers, and every byte that was lent for the output.
+// Whole bursts: the line of one, whether it is sent or received.
+use crate::cards;
 use crate::lines;
-ghost use mathlib.Core.Path.{_≡_};
-ghost use lib.ListN.{length};
+
+pub(crate) enum Call {
+    Send,
+    Receive,
+}
 
 // What an output byte holds before a call; no frame of the bench is like it.
 pub(crate) const BEFORE: u8 = 170;
 
-// Frames all alike, one more than a stream may have.
-pub(crate) fn too_many(frame: u8) -> [u8; 1048577]
-    ensures { λ r. ⌜ 1048577 ≡ length r ⌝ }
-{
-    [frame; 1048577]
-}
-
-// Room for as many frames as a stream may have.
-pub(crate) fn room(byte: u8) -> [u8; 1048576]
-    ensures { λ r. ⌜ 1048576 ≡ length r ⌝ }
-{
-    [byte; 1048576]
+fn call_of(call: Call, card: &[u8], input: &[u8], output: &mut [u8]) -> i32 {
+    match call {
+        Call::Send => burst::send::burst_send(card, input, output),
+        Call::Receive => burst::receive::burst_receive(card, input, output),
+    }
 }
 
 fn magnitude(x: i32) -> u64 {
@@ -25,7 +22,7 @@ fn magnitude(x: i32) -> u64 {
 }
 
 // The count of output frames, or minus the refusal.
-pub(crate) fn answer(came: i32) {
+fn answer(came: i32) {
     if came < 0 {
         lines::text(b": refused ");
     } else {
@@ -34,10 +31,46 @@ pub(crate) fn answer(came: i32) {
     lines::number(magnitude(came));
 }
 
-pub(crate) fn output(bytes: &[u8]) {
+// A line begun: its name, and what the call answers.
+pub(crate) fn answered(
+    call: Call,
+    name: &[u8],
+    draft: cards::Draft,
+    input: &[u8],
+    output: &mut [u8],
+) {
+    let bytes = draft.bytes;
+    let came = call_of(call, lines::front(&bytes, draft.len), input, output);
+    lines::text(name);
+    answer(came);
+}
+
+fn row(bytes: &[u8]) {
     lines::text(b", bytes");
     for i in 0..bytes.len() {
         lines::text(b" ");
         lines::number(bytes[i] as u64);
     }
+}
+
+// What the call answers, and every byte that was lent for the output.
+fn shown(call: Call, name: &[u8], draft: cards::Draft, input: &[u8], output: &mut [u8]) {
+    answered(call, name, draft, input, output);
+    row(output);
+    lines::text(b"\n");
+}
+
+// With room for so many frames, eight at most.
+fn burst(call: Call, name: &[u8], draft: cards::Draft, input: &[u8], room: usize) {
+    let mut output = [BEFORE; 8];
+    let end = bits::at_most(room, 8);
+    shown(call, name, draft, input, &mut output[..end]);
+}
+
+pub(crate) fn sent(name: &[u8], draft: cards::Draft, input: &[u8], room: usize) {
+    burst(Call::Send, name, draft, input, room);
+}
+
+pub(crate) fn received(name: &[u8], draft: cards::Draft, input: &[u8], room: usize) {
+    burst(Call::Receive, name, draft, input, room);
 }

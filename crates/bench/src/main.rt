@@ -3,6 +3,7 @@
 mod bursts;
 mod cards;
 mod levels;
+mod limits;
 mod lines;
 mod listed;
 mod longest;
@@ -24,5 +25,6 @@ fn main() {
     reading::cases();
     sending::cases();
     receiving::cases();
+    limits::cases();
     listed::cases();
 }

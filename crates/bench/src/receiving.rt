@@ -1,6 +1,6 @@
-// The cases of receiving: document 01, "Checks" and "Readings and bursts", and the refusals 11, 13, 14 and 15 in their orders.
+// The cases of receiving: document 01, "Checks" and "Readings and bursts", and the refusals 11, 13 and 14 in their orders. Those of readings
+// are in `levels`, those of 15 in `limits`.
 use crate::bursts;
-use crate::bursts::BEFORE;
 use crate::cards;
 use crate::levels;
 use crate::lines;
@@ -14,11 +14,9 @@ pub(crate) fn cases() {
     figures();
     levels::cases();
     refused_calls();
-    session_limit();
     whole_bursts();
     short_bursts();
     refused_bursts();
-    burst_limits();
 }
 
 // A line begun: its name, and the verdict on the card. What each call answers comes after it.
@@ -46,7 +44,7 @@ pub(crate) fn answer(came: Answer) {
     }
 }
 
-fn receive_under(s: Session, number: u8, frame: u8) -> Session {
+pub(crate) fn receive_under(s: Session, number: u8, frame: u8) -> Session {
     let received = decoder::receive_byte(s, number, frame);
     let came = received.answer;
     answer(came);
@@ -67,8 +65,15 @@ pub(crate) fn receive_each(s: Session, frames: &[u8]) -> Session {
     session
 }
 
-// The frame 0 so many times: how often 'waiting' came, and how many frames.
-fn receive_zeros(s: Session, times: u32) -> Session {
+// What a run of calls comes to: how often 'waiting' came, and how many frames.
+struct Run {
+    session: Session,
+    waiting: u32,
+    frames: u32,
+}
+
+// The frame 0 so many times.
+fn zeros(s: Session, times: u32) -> Run {
     let card = s.card;
     let number = card.number;
     let mut session = s;
@@ -84,12 +89,21 @@ fn receive_zeros(s: Session, times: u32) -> Session {
             Answer::Refused(_) => {}
         }
     }
+    Run {
+        session,
+        waiting,
+        frames,
+    }
+}
+
+pub(crate) fn receive_zeros(s: Session, times: u32) -> Session {
+    let run = zeros(s, times);
     lines::text(b", ");
-    lines::number(waiting as u64);
+    lines::number(run.waiting as u64);
     lines::text(b" waiting and ");
-    lines::number(frames as u64);
+    lines::number(run.frames as u64);
     lines::text(b" frames");
-    session
+    run.session
 }
 
 fn figure(s: Session) -> Session {
@@ -165,139 +179,86 @@ fn refused_calls() {
     lines::text(b"\n");
 }
 
-// A session receives 1,048,576 frames; 14 comes before 15, and 15 before 11 and 12.
-fn session_limit() {
-    let p = opened(
-        b"P receives 0 for 1048576 times, then 0, 4 and NaN, then 0 under card number 8",
-        cards::p(),
-    );
-    let full = receive_each(receive_zeros(p, 1048576), b"\x00\x04");
-    receive_under(levels::receive_nan(full), 8, 0);
-    lines::text(b"\n");
-}
-
-fn answered(name: &[u8], draft: cards::Draft, input: &[u8], output: &mut [u8]) {
-    let bytes = draft.bytes;
-    let came = burst::receive::burst_receive(lines::front(&bytes, draft.len), input, output);
-    lines::text(name);
-    bursts::answer(came);
-}
-
-fn burst(name: &[u8], draft: cards::Draft, input: &[u8], output: &mut [u8]) {
-    answered(name, draft, input, output);
-    bursts::output(output);
-    lines::text(b"\n");
-}
-
 fn whole_bursts() {
-    burst(
+    bursts::received(
         b"P receives the burst 3, 3, 3, 2 into 3 bytes",
         cards::p(),
         b"\x03\x03\x03\x02",
-        &mut [BEFORE; 3],
+        3,
     );
-    burst(
+    bursts::received(
         b"P receives the burst 2, 2, 0, 0 into 5 bytes",
         cards::p(),
         b"\x02\x02\x00\x00",
-        &mut [BEFORE; 5],
+        5,
     );
-    burst(
+    bursts::received(
         b"Q receives the burst 2, 2, 0, 0 into 1 byte",
         cards::q(),
         b"\x02\x02\x00\x00",
-        &mut [BEFORE; 1],
+        1,
     );
-    burst(
+    bursts::received(
         b"T receives the burst 4, 4, 4, 0, 0 into 3 bytes",
         cards::t(2),
         b"\x04\x04\x04\x00\x00",
-        &mut [BEFORE; 3],
+        3,
     );
-    burst(
+    bursts::received(
         b"k 4, n 8 receives the burst 16, 2, 187, 240 into 3 bytes",
         streams::all_eight(),
         b"\x10\x02\xbb\xf0",
-        &mut [BEFORE; 3],
+        3,
     );
-    burst(
+    bursts::received(
         b"m 0 receives the burst 7, 6, 2, 1 into 4 bytes",
         streams::repetition(),
         b"\x07\x06\x02\x01",
-        &mut [BEFORE; 4],
+        4,
     );
 }
 
 // With m frames or fewer, none is handed out.
 fn short_bursts() {
-    burst(
-        b"P receives an empty burst into 1 byte",
-        cards::p(),
-        b"",
-        &mut [BEFORE; 1],
-    );
-    burst(
+    bursts::received(b"P receives an empty burst into 1 byte", cards::p(), b"", 1);
+    bursts::received(
         b"Q receives the burst 2, 2 into 1 byte",
         cards::q(),
         b"\x02\x02",
-        &mut [BEFORE; 1],
+        1,
     );
-    burst(
+    bursts::received(
         b"Q receives the burst 2, 2, 0 into 1 byte",
         cards::q(),
         b"\x02\x02\x00",
-        &mut [BEFORE; 1],
+        1,
     );
 }
 
 // The card comes before 13, and 13 before 11.
 fn refused_bursts() {
-    burst(
+    bursts::received(
         b"P receives the burst 3, 3, 3, 2 into 2 bytes",
         cards::p(),
         b"\x03\x03\x03\x02",
-        &mut [BEFORE; 2],
+        2,
     );
-    burst(
+    bursts::received(
         b"P receives the burst 3, 4, 3, 2 into 3 bytes",
         cards::p(),
         b"\x03\x04\x03\x02",
-        &mut [BEFORE; 3],
+        3,
     );
-    burst(
+    bursts::received(
         b"P receives the burst 3, 4, 3, 2 into 2 bytes",
         cards::p(),
         b"\x03\x04\x03\x02",
-        &mut [BEFORE; 2],
+        2,
     );
-    burst(
+    bursts::received(
         b"the first 19 bytes of P receive the burst 4, 4, 4 into 1 byte",
         cards::cut(cards::p(), 19),
         b"\x04\x04\x04",
-        &mut [BEFORE; 1],
-    );
-}
-
-// The burst of so many zeros, with room for 1,048,576 frames.
-fn limit(name: &[u8], draft: cards::Draft, frames: usize) {
-    let zeros = bursts::too_many(0);
-    let mut output = bursts::room(BEFORE);
-    answered(name, draft, lines::front(&zeros, frames), &mut output);
-    lines::text(b"\n");
-}
-
-// A burst receives 1,048,576 frames; 15 comes before 13.
-fn burst_limits() {
-    limit(b"P receives a burst of 1048576 frames", cards::p(), 1048576);
-    limit(b"P receives a burst of 1048577 frames", cards::p(), 1048577);
-    limit(
-        b"m 0 receives a burst of 1048576 frames",
-        streams::repetition(),
-        1048576,
-    );
-    limit(
-        b"m 0 receives a burst of 1048577 frames",
-        streams::repetition(),
-        1048577,
+        1,
     );
 }

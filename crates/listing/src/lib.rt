@@ -14,6 +14,7 @@ ghost use Rattle.burst.specs.Claims.{Admitted};
 ghost use Rattle.listing.specs.Listing.{statedLength, firstBeyond, listingOf, listingUnder};
 ghost use Rattle.listing.specs.Promise.{Lists};
 ghost use Rattle.listing.specs.Written.{WroteWhole, HandsOut, ReadAs};
+use bits::size;
 use card::Card;
 use card::Refusal;
 use card::Verdict;
@@ -29,12 +30,6 @@ pub const LONGEST_INPUT: usize = 2 + 2048 + 32768;
 // No listing is longer: the first line has at most 22 bytes (`card 255 k 4 n 8 m 31`), that of each frame at most 14 (a time of five digits,
 // four streams), the last one at most 10 (`end 32768`), and a refusal or `input too long` stands alone.
 pub const LISTING_ROOM: usize = 22 + 14 * 32768 + 10;
-
-fn size(x: u8) -> usize
-    ensures { λ r. ⌜ r ≡ x ⌝ }
-{
-    x as usize
-}
 
 // The stated length of the card, 0 where a length byte is missing.
 fn stated_length(input: &[u8]) -> usize

@@ -10,13 +10,13 @@ ghost use Rattle.card.specs.Refusals.{numberOf};
 ghost use Rattle.listing.specs.Text.{text, decimal, spaced};
 ghost use Rattle.listing.specs.Listing.{tooLongLine, refusedLine, cardLine, frameLine, frameLines, endLine};
 ghost use Rattle.listing.specs.Written.{Wrote, WroteWhole};
-use crate::size;
 use crate::text::number;
 use crate::text::numbered;
 use crate::text::word;
+use bits::size;
 use card::Refusal;
 
-pub fn too_long(output: &mut [u8]) -> usize
+pub(crate) fn too_long(output: &mut [u8]) -> usize
     requires { ⌜ 15 ≤ length (now output) ⌝ }
     ensures { λ r. ⌜ WroteWhole 15 (now (output .entry)) tooLongLine (now (output .exit)) r ⌝ }
 {
@@ -24,7 +24,7 @@ pub fn too_long(output: &mut [u8]) -> usize
 }
 
 // The number has up to three digits, the place up to twenty.
-pub fn refused(output: &mut [u8], refusal: Refusal, place: usize) -> usize
+pub(crate) fn refused(output: &mut [u8], refusal: Refusal, place: usize) -> usize
     requires { ⌜ 36 ≤ length (now output) ⌝ }
     ensures { λ r. ⌜ WroteWhole 36 (now (output .entry)) (refusedLine (numberOf refusal) place) (now (output .exit)) r ⌝ }
 {
@@ -34,7 +34,7 @@ pub fn refused(output: &mut [u8], refusal: Refusal, place: usize) -> usize
     word(output, after_place, b"\n")
 }
 
-pub fn card_line(output: &mut [u8], card: u8, k: usize, n: usize, m: usize) -> usize
+pub(crate) fn card_line(output: &mut [u8], card: u8, k: usize, n: usize, m: usize) -> usize
     requires { ⌜ (k ≤ 4) × (n ≤ 8) × (m ≤ 31) × (22 ≤ length (now output)) ⌝ }
     ensures { λ r. ⌜ Wrote (now (output .entry)) 0 (cardLine card k n m) (now (output .exit)) r ⌝ }
 {
@@ -45,7 +45,7 @@ pub fn card_line(output: &mut [u8], card: u8, k: usize, n: usize, m: usize) -> u
     word(output, after_m, b"\n")
 }
 
-pub fn end_line(output: &mut [u8], at: usize, count: usize) -> usize
+pub(crate) fn end_line(output: &mut [u8], at: usize, count: usize) -> usize
     requires { ⌜ (count < 100000) × (at + 10 ≤ length (now output)) ⌝ }
     ensures { λ r. ⌜ Wrote (now (output .entry)) at (endLine count) (now (output .exit)) r ⌝ }
 {
@@ -92,7 +92,7 @@ fn frame_line(output: &mut [u8], at: usize, k: usize, time: usize, frame: u8) ->
 }
 
 // A line per frame, the times from 0 on.
-pub fn frame_lines(output: &mut [u8], at: usize, k: usize, frames: &[u8]) -> usize
+pub(crate) fn frame_lines(output: &mut [u8], at: usize, k: usize, frames: &[u8]) -> usize
     requires { ⌜ (k ≤ 4) × (length (now frames) ≤ 32768) × (at + 14 * length (now frames) ≤ length (now output)) ⌝ }
     ensures { λ r. ⌜ Wrote (now (output .entry)) at (frameLines k 0 (now (frames .entry))) (now (output .exit)) r ⌝ }
 {

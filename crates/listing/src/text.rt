@@ -22,7 +22,7 @@ fn digit(d: usize) -> u8
     b'0' + d as u8
 }
 
-pub fn word(output: &mut [u8], at: usize, bytes: &[u8]) -> usize
+pub(crate) fn word(output: &mut [u8], at: usize, bytes: &[u8]) -> usize
     requires { ⌜ at + length (now bytes) ≤ length (now output) ⌝ }
     ensures { λ r. ⌜ Wrote (now (output .entry)) at (now (bytes .entry)) (now (output .exit)) r ⌝ }
 {
@@ -35,7 +35,7 @@ pub fn word(output: &mut [u8], at: usize, bytes: &[u8]) -> usize
 }
 
 // A number in decimal: what stands before its last digit, and that digit.
-pub fn number(output: &mut [u8], at: usize, n: usize) -> usize
+pub(crate) fn number(output: &mut [u8], at: usize, n: usize) -> usize
     requires { ⌜ at + length (decimal n) ≤ length (now output) ⌝ }
     ensures { λ r. ⌜ Wrote (now (output .entry)) at (decimal n) (now (output .exit)) r ⌝ }
 {
@@ -47,7 +47,7 @@ pub fn number(output: &mut [u8], at: usize, n: usize) -> usize
 }
 
 // A word, and a number after it.
-pub fn numbered(output: &mut [u8], at: usize, bytes: &[u8], n: usize) -> usize
+pub(crate) fn numbered(output: &mut [u8], at: usize, bytes: &[u8], n: usize) -> usize
     requires { ⌜ at + (length (now bytes) + length (decimal n)) ≤ length (now output) ⌝ }
     ensures { λ r. ⌜ Wrote (now (output .entry)) at (now (bytes .entry) ++ decimal n) (now (output .exit)) r ⌝ }
 {

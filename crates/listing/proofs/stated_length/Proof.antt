@@ -23,15 +23,15 @@ size-requires-2 : tie.Need-size-requires-2
 size-requires-2 c κs = search needs
 
 mul-result : tie.Need-mul-result
-mul-result c = omega (arith, c .size2 .ensures, c .before .shared-slice-known3 .given 0, c .before .shared-slice-known3 .given 1)
+mul-result c = omega (arith, c .size2 .ensures .0, c .before .shared-slice-known3 .given 0, c .before .shared-slice-known3 .given 1)
 
 add-result : tie.Need-add-result
-add-result c = omega (arith, c .size2 .ensures, c .before .shared-slice-known3 .given 1, c .before .before .size .ensures, c .before .shared-slice-known3 .given 0)
+add-result c = omega (arith, c .size2 .ensures .0, c .before .shared-slice-known3 .given 1, c .before .before .size .ensures .0, c .before .shared-slice-known3 .given 0)
 
 returns-2 : tie.Need-returns-2
 unfolding statedLength
 returns-2 c =
-    rw (le-leb 2 (length (c .before .before .before .before .before .before .args .input .now)) (c .before .before .before .before .if1 .left), c .before .before .size .ensures, c .size2 .ensures)
+    rw (le-leb 2 (length (c .before .before .before .before .before .before .args .input .now)) (c .before .before .before .before .if1 .left), c .before .before .size .ensures .0, c .size2 .ensures .0)
 
 pub stated-length-spec : {M : Type 1} → statement M
 stated-length-spec =

@@ -5,9 +5,6 @@ use lib.ListN.{length}
 use borrow.Author.Needs.{needs}
 use Rattle.bench.proofs.receiving.receive_each.Statement.{statement}
 use Rattle.bench.proofs.receiving.receive_each.Tie as tie
-use Rattle.bench.proofs.receiving.receive_each.Reads as reads
-use Rattle.bench.proofs.receiving.receive_each.Lts as lts
-use Rattle.bench.proofs.receiving.receive.Reads as receive-reads
 
 abbrev Inv-loop : tie.InvT-loop
 Inv-loop frames session₀ i₀ i-end session i = (i ≤ i-end) × (i-end ≡ length frames)

@@ -130,7 +130,7 @@ returns c =
     let k-end = c .before .before .before .before .before .before .before .before .before .before .before .before .before .before .before .before .before .numbered2 .ensures in
     let n-end = c .before .before .before .before .before .before .before .before .before .before .before .before .numbered3 .ensures in
     let m-end = c .before .before .before .before .before .before .before .numbered4 .ensures in
-    wrote-as (card-line (card .result) (a .k) (a .n) (a .m) ∙ ap (λ (x : ℕ). cardLine x (a .k) (a .n) (a .m)) (card .ensures))
+    wrote-as (card-line (card .result) (a .k) (a .n) (a .m) ∙ ap (λ (x : ℕ). cardLine x (a .k) (a .n) (a .m)) (card .ensures .0))
     (wrote-both _ _ (wrote-both _ _ (wrote-both _ _ (wrote-both _ _ card-end k-end) n-end) m-end) (c .before .before .word .ensures))
 
 pub card-line-spec : {M : Type 1} → statement M

@@ -82,7 +82,7 @@ returns c =
     record {
       wrote =
           wrote-as
-          (refused-line (n .result) (start .args .place) ∙ ap (λ (x : ℕ). refusedLine x (start .args .place)) (n .ensures ∙ published .ensures))
+          (refused-line (n .result) (start .args .place) ∙ ap (λ (x : ℕ). refusedLine x (start .args .place)) (n .ensures .0 ∙ published .ensures))
           (wrote-both _ _ (wrote-both _ _ (number .ensures) (place .ensures)) (feed .ensures));
       within =
           omega (

@@ -1,15 +1,11 @@
--- `bench::bursts::output` is safe and ends. Assumes nothing.
+-- `bench::bursts::row` is safe and ends. Assumes nothing.
 use Prim.Native.Nat.{_≤_, _-_}
 use mathlib.Core.Path.{_≡_}
 use lib.ListN.{length}
 use native.Mathlib.Omega.{arith}
 use borrow.Author.Needs.{needs}
-use Rattle.bench.proofs.bursts.output.Statement.{statement}
-use Rattle.bench.proofs.bursts.output.Tie as tie
-use Rattle.bench.proofs.bursts.output.Reads as reads
-use Rattle.bench.proofs.bursts.output.Lts as lts
-use Rattle.bench.proofs.lines.number.Reads as number-reads
-use Rattle.bench.proofs.lines.text.Reads as text-reads
+use Rattle.bench.proofs.bursts.row.Statement.{statement}
+use Rattle.bench.proofs.bursts.row.Tie as tie
 
 abbrev Inv-loop : tie.InvT-loop
 Inv-loop bytes i₀ t4 i-end i = (i ≤ i-end) × (i-end ≡ length bytes)
@@ -53,8 +49,8 @@ loop-again c = search needs
 returns : tie.Need-returns Inv-loop μ-loop
 returns c = search needs
 
-pub output-spec : {M : Type 1} → statement M
-output-spec =
+pub row-spec : {M : Type 1} → statement M
+row-spec =
     tie.close
     (tie.spec
     Inv-loop
