@@ -10,7 +10,7 @@ use Rattle.card.specs.Code.{sent}
 use Rattle.card.specs.Outcome.{Outcome}
 use Rattle.card.specs.Outcome.Outcome.{accepted, refused}
 use Rattle.card.specs.Reading.{readCard}
-use Rattle.decoder.specs.Rule.{decoded}
+use Rattle.majority.specs.Rule.{decoded}
 use Rattle.decoder.specs.Answers.{waiting}
 use Rattle.decoder.specs.Calls.{answersBy}
 use Rattle.burst.specs.Receiving.{receiveOf}

@@ -23,9 +23,9 @@ use Rattle.card.specs.Code.{generator, digit}
 use Rattle.card.specs.Checks.{count, checkMask}
 use Rattle.card.specs.Guarantees.{Guarantees}
 use Rattle.card.specs.declared.Card.{Card}
-use Rattle.decoder.specs.Rule.{cleared, checkAt, votes, decide, decideFrame, decided, corrected}
-use Rattle.decoder.proofs.Streams.{decided-length, decided-at}
-use Rattle.decoder.proofs.Feedback.{cleared-fed}
+use Rattle.majority.specs.Rule.{cleared, checkAt, votes, decide, decideFrame, decided, corrected}
+use Rattle.majority.proofs.Streams.{decided-length, decided-at}
+use Rattle.majority.proofs.Feedback.{cleared-fed}
 use Rattle.burst.specs.Registers.{generatorSums, checkBy, votesBy, majorityBy, decideBy, takenOut, Corrected}
 use Rattle.burst.specs.Held.{syndromeHeld, Before, With}
 use Rattle.burst.proofs.Coming.{generator-beyond}

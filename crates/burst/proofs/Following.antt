@@ -22,9 +22,9 @@ use Rattle.bits.proofs.Words.{shift-digit}
 use Rattle.card.specs.Code.{generator, digit, parityAt}
 use Rattle.card.specs.Guarantees.{Guarantees}
 use Rattle.card.specs.declared.Card.{Card}
-use Rattle.decoder.specs.Rule.{syndrome, cleared, decided}
-use Rattle.decoder.proofs.Streams.{decided-length}
-use Rattle.decoder.proofs.Feedback.{syndrome-lt, cleared-lt, cleared-new}
+use Rattle.majority.specs.Rule.{syndrome, cleared, decided}
+use Rattle.majority.proofs.Streams.{decided-length}
+use Rattle.majority.proofs.Feedback.{syndrome-lt, cleared-lt, cleared-new}
 use Rattle.burst.specs.Registers.{generatorSum, generatorSums, parityWith, comingNext, syndromesNext, TakenIn}
 use Rattle.burst.specs.Held.{comingAt, syndromeHeld, Before, With}
 use Rattle.burst.proofs.Coming.{comingWith, coming-with, coming-now, coming-later}

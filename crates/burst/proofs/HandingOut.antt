@@ -13,7 +13,7 @@ use Rattle.bits.specs.Sums.{upTo}
 use Rattle.bits.proofs.Lists.{part-at, part-length, part-step}
 use Rattle.card.specs.Guarantees.{Guarantees}
 use Rattle.card.specs.declared.Card.{Card}
-use Rattle.decoder.specs.Rule.{decided, corrected, decoded}
+use Rattle.majority.specs.Rule.{decided, corrected, decoded}
 use Rattle.burst.specs.Registers.{generatorSums, written, TakenIn, takenOut, Corrected}
 use Rattle.burst.specs.Held.{With, cardWith, Carried, HandedOut}
 use Rattle.burst.proofs.Voting.{decide-lt}

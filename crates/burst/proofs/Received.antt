@@ -14,9 +14,9 @@ use Rattle.card.specs.Promise.{CardPromise}
 use Rattle.card.specs.Reading.{readCard}
 use Rattle.card.specs.declared.Card.{Card}
 use Rattle.card.specs.declared.CardRead.{CardRead}
-use Rattle.decoder.specs.Rule.{decoded}
-use Rattle.decoder.proofs.Streams.{decoded-length}
-use Rattle.decoder.proofs.Theorem.{decoded-as-sent}
+use Rattle.majority.specs.Rule.{decoded}
+use Rattle.majority.proofs.Streams.{decoded-length}
+use Rattle.majority.proofs.Theorem.{decoded-as-sent}
 use Rattle.burst.specs.Outcome.{BurstOutcome, outcome, refusedOf, givenOf, underCard}
 use Rattle.burst.specs.Receiving.{receiveUnder, receiveOf}
 use Rattle.burst.specs.Claims.{Admitted, CameOut, ComesOutAsSent}

@@ -12,7 +12,7 @@ use Rattle.bits.specs.Digits.{anyBeyond}
 use Rattle.card.specs.Outcome.Outcome.{accepted}
 use Rattle.card.specs.Reading.{readCard}
 use Rattle.card.specs.declared.Card.{Card}
-use Rattle.decoder.specs.AsSent.{Correctable}
+use Rattle.majority.specs.AsSent.{Correctable}
 
 -- the burst meets none of the refusals: the card's, 15, 13 and 11
 pub record Admitted (card input output : List ℕ) : Type 0 where

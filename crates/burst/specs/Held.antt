@@ -12,7 +12,7 @@ use Rattle.bits.specs.Digits.{bit}
 use Rattle.card.specs.Code.{generator, digit}
 use Rattle.card.specs.Guarantees.{Guarantees}
 use Rattle.card.specs.declared.Card.{Card}
-use Rattle.decoder.specs.Rule.{cleared, decided, corrected, decoded}
+use Rattle.majority.specs.Rule.{cleared, decided, corrected, decoded}
 use Rattle.burst.specs.Registers.{generatorSums, written}
 
 -- the part of parity digit j at t + a that the information digits of times before t give

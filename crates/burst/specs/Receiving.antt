@@ -8,7 +8,7 @@ use lib.Dec.{ltb}
 use Rattle.bits.specs.Digits.{anyBeyond}
 use Rattle.card.specs.Reading.{readCard}
 use Rattle.card.specs.declared.Card.{Card}
-use Rattle.decoder.specs.Rule.{decoded}
+use Rattle.majority.specs.Rule.{decoded}
 use Rattle.burst.specs.Outcome.{BurstOutcome, refusedOf, givenOf, underCard}
 
 -- under the card c: "15 by length .., 13, 11"; "the first m frames give 'waiting'; each later one gives the frame m before it"

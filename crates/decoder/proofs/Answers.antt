@@ -6,10 +6,10 @@ use native.Mathlib.Omega.{arith}
 use lib.ListN.{length, getD, drop, replicate, length-append, length-replicate, length-map, getD-replicate, List·getD-append, List·getD-map}
 use lib.Seq.{drop-cons, getD-append-add}
 use Rattle.card.specs.declared.Card.{Card}
-use Rattle.decoder.specs.Rule.{decided, corrected, decoded}
+use Rattle.majority.specs.Rule.{decided, corrected, decoded}
 use Rattle.decoder.specs.Answers.{Given, waiting, frame}
 use Rattle.decoder.specs.Calls.{handedBy, answersBy}
-use Rattle.decoder.proofs.Streams.{decoded-length, decoded-at}
+use Rattle.majority.proofs.Streams.{decoded-length, decoded-at}
 
 -- ---- the answers from time t on
 module _ (c : Card) (frames : List ℕ) where

@@ -14,12 +14,12 @@ use Rattle.bits.proofs.Digits.{bit-of-zero, ones-of-digits}
 use Rattle.card.specs.Guarantees.{Guarantees}
 use Rattle.card.specs.declared.Card.{Card}
 use Rattle.card.proofs.Registers.{history-start}
-use Rattle.decoder.specs.Rule.{decided, decoded, figureBy}
-use Rattle.decoder.specs.AsSent.{Correctable}
+use Rattle.majority.specs.Rule.{decided, decoded, figureBy}
+use Rattle.majority.specs.AsSent.{Correctable}
 use Rattle.decoder.specs.Registers.{onesBy}
 use Rattle.decoder.specs.Receive.{openOf, linkFigureOf}
 use Rattle.decoder.specs.Calls.{Call, takenFrames, handedOut, takenAnswers, sessionAfter, answersBy}
-use Rattle.decoder.proofs.Theorem.{decoded-as-sent}
+use Rattle.majority.proofs.Theorem.{decoded-as-sent}
 use Rattle.decoder.proofs.Step.{SyndromesAt, held-in, held-out}
 use Rattle.decoder.proofs.Answers.{handedIn, handed-by-rule}
 use Rattle.decoder.proofs.Follow.{Followed, follow}

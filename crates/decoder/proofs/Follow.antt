@@ -15,7 +15,7 @@ use Rattle.card.specs.Guarantees.{Guarantees}
 use Rattle.card.specs.Registers.{historyBy}
 use Rattle.card.specs.declared.Card.{Card}
 use Rattle.card.proofs.Registers.{HistoryBefore, HistoryWith, history-later, history-next}
-use Rattle.decoder.specs.Rule.{decideFrame, decided}
+use Rattle.majority.specs.Rule.{decideFrame, decided}
 use Rattle.decoder.specs.Registers.{withSyndromes, decideFrameBy, correctedBy, fedBackBy}
 use Rattle.decoder.specs.Answers.{Given, waiting, frame, Reply}
 use Rattle.decoder.specs.Receive.{kOf, pOf, historyWith, syndromesWith, withFrame, errorsOf, handingOf, takenOf, refusedOf}

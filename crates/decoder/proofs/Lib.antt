@@ -1,10 +1,3 @@
--- the rule
-pub mod Streams
-pub mod Majority
-pub mod Linear
-pub mod Theorem
-pub mod Feedback
--- the session
 pub mod Step
 pub mod Bounds
 pub mod Yields

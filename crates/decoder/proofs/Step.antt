@@ -25,10 +25,10 @@ use Rattle.card.specs.Guarantees.{Guarantees}
 use Rattle.card.specs.Registers.{generatorMask}
 use Rattle.card.specs.declared.Card.{Card}
 use Rattle.card.proofs.Registers.{HistoryWith, in-table, parity-next}
-use Rattle.decoder.specs.Rule.{syndrome, cleared, checkAt, votes, decide, decideFrame, decided, corrected}
+use Rattle.majority.specs.Rule.{syndrome, cleared, checkAt, votes, decide, decideFrame, decided, corrected}
 use Rattle.decoder.specs.Registers.{syndromeBy, withSyndromes, checkBy, votesBy, decideBy, decideFrameBy, correctedBy, feedbackBy, fedBackBy}
-use Rattle.decoder.proofs.Streams.{decided-length, decided-at}
-use Rattle.decoder.proofs.Feedback.{cleared-lt, syndrome-lt, cleared-new, cleared-fed}
+use Rattle.majority.proofs.Streams.{decided-length, decided-at}
+use Rattle.majority.proofs.Feedback.{cleared-lt, syndrome-lt, cleared-new, cleared-fed}
 
 -- digit a of syndrome register j after n frames: the syndrome of time u + a, with these errors taken out, if that frame was received
 unfoldable pub held : Card → List ℕ → List ℕ → ℕ → ℕ → ℕ → ℕ → ℕ

@@ -7,7 +7,7 @@ use mathlib.Core.List.{List, [], _∷_, _++_, map}
 use lib.ListN.{length, replicate}
 use lib.Dec.{ltb, eqb}
 use Rattle.card.specs.declared.Card.{Card}
-use Rattle.decoder.specs.Rule.{decoded}
+use Rattle.majority.specs.Rule.{decoded}
 use Rattle.decoder.specs.Readings.{faults, frameRead}
 use Rattle.decoder.specs.Answers.{Given, waiting, frame, refused, Reply}
 use Rattle.decoder.specs.Receive.{receiveByteOf, receiveReadingsOf}

@@ -6,8 +6,8 @@ use mathlib.Core.Path.{_≡_}
 use mathlib.Core.List.{List}
 use lib.ListN.{length, getD}
 use Rattle.card.specs.declared.Card.{Card}
-use Rattle.decoder.specs.Rule.{decoded, figureBy}
-use Rattle.decoder.specs.AsSent.{Correctable}
+use Rattle.majority.specs.Rule.{decoded, figureBy}
+use Rattle.majority.specs.AsSent.{Correctable}
 use Rattle.decoder.specs.Receive.{linkFigureOf}
 use Rattle.decoder.specs.Calls.{Call, takenFrames, handedOut, takenAnswers, sessionAfter, answersBy}
 use Rattle.decoder.specs.declared.Session.{Session}

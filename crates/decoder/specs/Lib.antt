@@ -1,5 +1,3 @@
-pub mod Rule
-pub mod AsSent
 pub mod Readings
 pub mod Answers
 pub mod Registers

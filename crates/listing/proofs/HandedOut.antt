@@ -11,8 +11,8 @@ use Rattle.bits.specs.Digits.{anyBeyond}
 use Rattle.card.specs.Outcome.{Outcome}
 use Rattle.card.specs.Reading.{readCard}
 use Rattle.card.specs.declared.Card.{Card}
-use Rattle.decoder.specs.Rule.{decoded}
-use Rattle.decoder.proofs.Streams.{decoded-length}
+use Rattle.majority.specs.Rule.{decoded}
+use Rattle.majority.proofs.Streams.{decoded-length}
 use Rattle.burst.specs.Claims.{Admitted}
 use Rattle.burst.specs.Outcome.{BurstOutcome, outcome, givenOf, underCard}
 use Rattle.burst.specs.Receiving.{receiveUnder, receiveOf}

@@ -9,7 +9,7 @@ ghost use lib.ListN.{length, take, drop};
 ghost use Rattle.bits.specs.Digits.{anyBeyond};
 ghost use Rattle.card.specs.Outcome.Outcome.{accepted};
 ghost use Rattle.card.specs.Reading.{readCard};
-ghost use Rattle.decoder.specs.Rule.{decoded};
+ghost use Rattle.majority.specs.Rule.{decoded};
 ghost use Rattle.burst.specs.Claims.{Admitted};
 ghost use Rattle.listing.specs.Listing.{statedLength, firstBeyond, listingOf, listingUnder};
 ghost use Rattle.listing.specs.Promise.{Lists};

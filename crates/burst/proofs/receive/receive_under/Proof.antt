@@ -6,8 +6,8 @@ use lib.ListN.{length}
 use lib.IntN.{pos}
 use borrow.Author.Needs.{needs}
 use Rattle.card.specs.Checks.{count}
-use Rattle.decoder.specs.Rule.{decoded}
-use Rattle.decoder.proofs.Streams.{decoded-length}
+use Rattle.majority.specs.Rule.{decoded}
+use Rattle.majority.proofs.Streams.{decoded-length}
 use Rattle.burst.proofs.Answers.{answer-is}
 use Rattle.burst.proofs.Outcomes.{refused-is, given-is}
 use Rattle.burst.proofs.Received.{receive-full, receive-short, receive-beyond, receive-given}

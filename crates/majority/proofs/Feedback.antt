@@ -14,7 +14,7 @@ use Rattle.bits.proofs.Back.{back-in, back-out}
 use Rattle.card.specs.Code.{generator, digit, parityAt}
 use Rattle.card.specs.declared.Card.{Card}
 use Rattle.card.proofs.Frames.{digit-out, digit-append, digit-last}
-use Rattle.decoder.specs.Rule.{syndrome, cleared}
+use Rattle.majority.specs.Rule.{syndrome, cleared}
 
 pub cleared-lt : (c : Card) (frames errors : List ℕ) (u j : ℕ) → cleared c frames errors u j < 2
 unfolding cleared

@@ -13,8 +13,8 @@ use Rattle.card.specs.Checks.{checkMask, touchesInfo, touchesBy, touches}
 use Rattle.card.specs.declared.Card.{Card}
 use Rattle.card.proofs.Parity.{paritySum, parity-sum, parity-add, parity-from}
 use Rattle.card.proofs.Touches.{touches-info, touches-parity}
-use Rattle.decoder.specs.Rule.{syndrome, cleared, checkAt}
-use Rattle.decoder.proofs.Majority.{touchedSum}
+use Rattle.majority.specs.Rule.{syndrome, cleared, checkAt}
+use Rattle.majority.proofs.Majority.{touchedSum}
 
 -- what a check with these masks adds up of the errors e (time, stream), by its definition ..
 unfoldable pub checkSum : Card → (ℕ → ℕ) → (ℕ → ℕ → ℕ) → ℕ

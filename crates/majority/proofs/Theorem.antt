@@ -21,11 +21,11 @@ use Rattle.card.specs.declared.Card.{Card}
 use Rattle.card.proofs.Frames.{digit-le}
 use Rattle.card.proofs.Sent.{sent-info, sent-parity, with-tail-digit}
 use Rattle.card.proofs.Touches.{touches-le}
-use Rattle.decoder.specs.Rule.{checkAt, votes, decide, decided, corrected, decoded}
-use Rattle.decoder.specs.AsSent.{wrong, touched, wrongTouched, Correctable}
-use Rattle.decoder.proofs.Streams.{test-as-number, decided-digit, decided-none, decoded-length, decoded-at}
-use Rattle.decoder.proofs.Majority.{touchedSum, onesOf, touchedByAny, few-ones, many-ones}
-use Rattle.decoder.proofs.Linear.{check-errors}
+use Rattle.majority.specs.Rule.{checkAt, votes, decide, decided, corrected, decoded}
+use Rattle.majority.specs.AsSent.{wrong, touched, wrongTouched, Correctable}
+use Rattle.majority.proofs.Streams.{test-as-number, decided-digit, decided-none, decoded-length, decoded-at}
+use Rattle.majority.proofs.Majority.{touchedSum, onesOf, touchedByAny, few-ones, many-ones}
+use Rattle.majority.proofs.Linear.{check-errors}
 
 -- every error of the frames before u was decided rightly
 abbrev RightBefore : Card → List ℕ → List ℕ → ℕ → Type 0

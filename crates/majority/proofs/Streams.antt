@@ -16,7 +16,7 @@ use Rattle.bits.proofs.Lists.{upTo-length, upTo-at}
 use Rattle.card.specs.Code.{digit}
 use Rattle.card.specs.declared.Card.{Card}
 use Rattle.card.proofs.Frames.{digit-out}
-use Rattle.decoder.specs.Rule.{decide, decideFrame, decided, corrected, decoded}
+use Rattle.majority.specs.Rule.{decide, decideFrame, decided, corrected, decoded}
 
 -- the answer of a test as a number, which `omega` reads
 pub test-as-number : (x y : ℕ) → cond (ltb x y) 1 0 ≡ min 1 (y - x)

@@ -1,0 +1,6 @@
+pub mod Streams
+pub mod Feedback
+-- the third term
+pub mod Majority
+pub mod Linear
+pub mod Theorem
