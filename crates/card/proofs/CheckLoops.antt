@@ -83,3 +83,8 @@ tables-ended c e q y z o g = rw (e, q, y, z, o) g
 pub tables-broken : (c : Card) {v : Verdict} (l x : List ℕ) (at : ℕ) {f : Refusal} {o : ℕ} {r : PartOutcome} → v ≡ Refused f o → refusedPart (numberOf f) o ≡ r
     → leftTables c v l x at ≡ r
 tables-broken c l x at e g = rw e g
+
+-- .. at a check that fails: f is why it is refused
+pub tables-failed : (c : Card) {v : Verdict} (l x : List ℕ) (at : ℕ) {f g : Refusal} {o : ℕ} {r : PartOutcome} → v ≡ Refused f o → f ≡ g → refusedPart (numberOf g) o ≡ r
+    → leftTables c v l x at ≡ r
+tables-failed c l x at e q h = rw (e, q) h

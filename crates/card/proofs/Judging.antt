@@ -18,11 +18,13 @@ use Rattle.bits.proofs.Words.{dot-shifted}
 use Rattle.card.specs.Code.{generator}
 use Rattle.card.specs.Checks.{touchesInfo, touchesBy}
 use Rattle.card.specs.Reading.{maskAt, touchedBy, clashes, judge}
-use Rattle.card.specs.ErrorMasks.{touchBy, errorMask, errorsBy, others, shared, joined, JudgedOutcome, judgeBy}
+use Rattle.card.specs.Parts.{judgementNumber}
+use Rattle.orthogonal.specs.ErrorMasks.{touchBy, errorMask, errorsBy, others, shared, joined, judgeStream, judgeBy}
+use Rattle.orthogonal.specs.declared.Judged.{Judged}
 use Rattle.card.specs.declared.Card.{Card}
 use Rattle.card.proofs.Touches.{touches-by-le}
 use Rattle.card.proofs.Clashes.{no-clash, clash-none}
-use Rattle.card.proofs.ErrorMasks.{touch-lt, errors-long, errors-at, others-away, others-own, shared-none, shared-some, joined-bit}
+use Rattle.orthogonal.proofs.ErrorMasks.{touch-lt, errors-long, errors-at, judged-at, others-away, others-own, shared-none, shared-some, joined-bit}
 
 -- the errors touched by the earlier checks of stream i, their own digit's left out
 pub record Union (c : Card) (i : ℕ) (earlier : List (List ℕ)) (touched : List ℕ) : Type 0 where
@@ -60,7 +62,7 @@ module _ (c : Card) (n-most : c .k + c .p ≤ 8) (k-most : c .k ≤ 4) (m-most :
     errors-in : (s b : ℕ) → s < 8 → b ≤ c .m → bit (getD errs s 0) b ≡ touchesBy c (maskAt vs) b s
     unfolding errs errorMask touchesBy
     errors-in s b l h =
-        ap (λ x. bit x b) (errors-at (c .generators) masks (c .k) (c .p) (c .m) s l)
+        ap (λ x. bit x b) (errors-at (c .generators) masks (c .k) (c .p) (c .m) s (omega arith) m-most l)
         ∙ ⊎-elim (λ q. rw (le-ltb s (c .k) q) (ap (λ x. bit x b) (same (s - c .k))))
         (λ q.
         rw (lt-ltb s (c .k) q)
@@ -71,7 +73,7 @@ module _ (c : Card) (n-most : c .k + c .p ≤ 8) (k-most : c .k ≤ 4) (m-most :
     errors-out : (s b : ℕ) → s < 8 → (c .k + c .p ≤ s) ⊎ (c .m < b) → bit (getD errs s 0) b ≡ 0
     unfolding errs errorMask
     errors-out s b l o =
-        ap (λ x. bit x b) (errors-at (c .generators) masks (c .k) (c .p) (c .m) s l)
+        ap (λ x. bit x b) (errors-at (c .generators) masks (c .k) (c .p) (c .m) s (omega arith) m-most l)
         ∙ ⊎-elim
         (λ q.
         rw (le-ltb s (c .k) q)
@@ -155,41 +157,41 @@ module _ (c : Card) (n-most : c .k + c .p ≤ 8) (k-most : c .k ≤ 4) (m-most :
                 omega arith
 
       -- the judgement
-      judged-number : judge c i earlier vs ≡ judgeBy errs touched i .number
-      unfolding judge judgeBy
+      judged-number : judge c i earlier vs ≡ judgementNumber (judgeStream errs touched i .judgement)
+      unfolding judge judgeStream
       judged-number = whole (same-or-not (getD errs i 0 % 2) 1)
         where
-          whole : (getD errs i 0 % 2 ≡ 1) ⊎ (getD errs i 0 % 2 ≡ 1 → ⊥) → judge c i earlier vs ≡ judgeBy errs touched i .number
+          whole : (getD errs i 0 % 2 ≡ 1) ⊎ (getD errs i 0 % 2 ≡ 1 → ⊥) → judge c i earlier vs ≡ judgementNumber (judgeStream errs touched i .judgement)
           whole (inr n) = rw (ne-eqb _ 1 n, ne-eqb (touchesBy c (maskAt vs) 0 i) 1 (λ e. n (own-is i i-most ∙ e)))
           whole (inl o) = stands o (same-or-not (shared touched (others errs i)) 0)
             where
-              stands : getD errs i 0 % 2 ≡ 1 → (shared touched (others errs i) ≡ 0) ⊎ (shared touched (others errs i) ≡ 0 → ⊥) → judge c i earlier vs ≡ judgeBy errs touched i .number
+              stands : getD errs i 0 % 2 ≡ 1 → (shared touched (others errs i) ≡ 0) ⊎ (shared touched (others errs i) ≡ 0 → ⊥) → judge c i earlier vs ≡ judgementNumber (judgeStream errs touched i .judgement)
               stands o (inl z) =
                   rw (eq-eqb (getD errs i 0 % 2) 1 o, eq-eqb (shared touched (others errs i)) 0 z, eq-eqb (touchesBy c (maskAt vs) 0 i) 1 (sym (own-is i i-most) ∙ o), eq-eqb (clashes c i earlier vs) 0 (none-clash o z))
               stands o (inr z) =
                   rw (eq-eqb (getD errs i 0 % 2) 1 o, ne-eqb (shared touched (others errs i)) 0 z, eq-eqb (touchesBy c (maskAt vs) 0 i) 1 (sym (own-is i i-most) ∙ o), ne-eqb (clashes c i earlier vs) 0 (λ e. z (none-shared o e)))
 
-      judged-touched : judgeBy errs touched i .number ≡ 0 → Union c i (vs ∷ earlier) (judgeBy errs touched i .touched)
-      unfolding judgeBy
+      judged-touched : judgementNumber (judgeStream errs touched i .judgement) ≡ 0 → Union c i (vs ∷ earlier) (judgeStream errs touched i .touched)
+      unfolding judgeStream
       judged-touched e = ⊎-elim (λ o. stands o (same-or-not (shared touched (others errs i)) 0)) (λ n. absurd (fails n)) (same-or-not (getD errs i 0 % 2) 1)
         where
           fails : (getD errs i 0 % 2 ≡ 1 → ⊥) → ⊥
           fails n = let z : _≡_ {A = ℕ} 8 0 = rw (ne-eqb _ 1 n) at e in omega arith
 
-          stands : getD errs i 0 % 2 ≡ 1 → (shared touched (others errs i) ≡ 0) ⊎ (shared touched (others errs i) ≡ 0 → ⊥) → Union c i (vs ∷ earlier) (judgeBy errs touched i .touched)
+          stands : getD errs i 0 % 2 ≡ 1 → (shared touched (others errs i) ≡ 0) ⊎ (shared touched (others errs i) ≡ 0 → ⊥) → Union c i (vs ∷ earlier) (judgeStream errs touched i .touched)
           stands o (inl z) = rw (eq-eqb _ 1 o, eq-eqb _ 0 z) (union-more o)
           stands o (inr z) = let w : _≡_ {A = ℕ} 9 0 = rw (eq-eqb _ 1 o, ne-eqb _ 0 z) at e in absurd (omega arith)
 
       -- .. as the program has it
-      module _ {errors : List ℕ} {j : JudgedOutcome} (es : errors ≡ errorsBy (c .generators) masks (c .k) (c .p) (c .m)) (ej : j ≡ judgeBy errors touched i) where
-        by-masks : j ≡ judgeBy errs touched i
+      module _ {errors : List ℕ} {j : Judged} (es : errors ≡ errorsBy (c .generators) masks (c .k) (c .p) (c .m)) (ej : j ≡ judgeBy errors touched i) where
+        by-masks : j ≡ judgeStream errs touched i
         unfolding errs
-        by-masks = ej ∙ ap (λ (x : List ℕ). judgeBy x touched i) es
+        by-masks = ej ∙ ap (λ (x : List ℕ). judgeBy x touched i) es ∙ judged-at _ touched i (omega arith)
 
-        pub judged-same : judge c i earlier vs ≡ j .number
-        judged-same = judged-number ∙ sym (ap (λ (x : JudgedOutcome). x .number) by-masks)
+        pub judged-same : judge c i earlier vs ≡ judgementNumber (j .judgement)
+        judged-same = judged-number ∙ sym (ap (λ (x : Judged). judgementNumber (x .judgement)) by-masks)
 
-        pub judged-union : j .number ≡ 0 → Union c i (vs ∷ earlier) (j .touched)
+        pub judged-union : judgementNumber (j .judgement) ≡ 0 → Union c i (vs ∷ earlier) (j .touched)
         judged-union z =
-            subst (λ (x : JudgedOutcome). Union c i (vs ∷ earlier) (x .touched)) (sym by-masks)
-            (judged-touched (sym (ap (λ (x : JudgedOutcome). x .number) by-masks) ∙ z))
+            subst (λ (x : Judged). Union c i (vs ∷ earlier) (x .touched)) (sym by-masks)
+            (judged-touched (sym (ap (λ (x : Judged). judgementNumber (x .judgement)) by-masks) ∙ z))

@@ -12,7 +12,6 @@ pub mod ReadParts
 pub mod HeadStages
 pub mod Rest
 pub mod RestGenerators
-pub mod ErrorMasks
 pub mod Judging
 pub mod RestChecks
 pub mod CheckLoops

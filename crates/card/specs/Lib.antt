@@ -9,4 +9,3 @@ pub mod Layout
 pub mod Promise
 pub mod Registers
 pub mod Parts
-pub mod ErrorMasks

@@ -3,16 +3,26 @@ ghost use mathlib.Core.Path.{_≡_};
 ghost use Prim.Native.Nat.{_+_, _<_, _≤_};
 ghost use lib.ListN.{length};
 ghost use Rattle.card.specs.Reading.{readStreams};
-ghost use Rattle.card.specs.Parts.{partOf, checksPart};
+ghost use Rattle.card.specs.Parts.{refusalOf, partOf, checksPart};
 use crate::Card;
 use crate::Refusal;
 use crate::Verdict;
-use crate::errors;
-use crate::errors::Judgement;
 use crate::fields;
 use crate::fields::FieldRead;
 use crate::parts;
 use crate::parts::Part;
+use orthogonal::Failure;
+use orthogonal::Judgement;
+
+// Why a check that fails is refused.
+fn refusal_of(failure: Failure) -> Refusal
+    ensures { λ r. ⌜ r ≡ refusalOf failure ⌝ }
+{
+    match failure {
+        Failure::OwnDigitUntouched => Refusal::OwnDigitUntouched,
+        Failure::ErrorTouchedBefore => Refusal::ErrorTouchedBefore,
+    }
+}
 
 // The checks of every information stream, left at the first refusal.
 pub(crate) fn read_checks(bytes: &[u8], start: usize, card: Card) -> Part
@@ -63,11 +73,12 @@ pub(crate) fn read_checks(bytes: &[u8], start: usize, card: Card) -> Part
                 at += (rest % 2) as usize * 4;
                 rest = rest / 2;
             }
-            let judged = errors::judge(errors::errors_by(&generators, &masks, k, p, m), touched, i);
+            let errors = orthogonal::errors_by(&generators, &masks, k, p, m);
+            let judged = orthogonal::judge(errors, touched, i);
             let judgement = judged.judgement;
-            if let Judgement::Fails(refusal) = judgement {
+            if let Judgement::Fails(failure) = judgement {
                 verdict = Verdict::Refused {
-                    refusal,
+                    refusal: refusal_of(failure),
                     offset: place,
                 };
                 break 'card;

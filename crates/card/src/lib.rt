@@ -1,7 +1,6 @@
 // Link cards: the code and the checks that a card names, and reading one from its bytes.
 mod checks;
 pub mod code;
-mod errors;
 mod fields;
 mod parts;
 

@@ -11,15 +11,14 @@ use Rattle.bits.proofs.Lists.{zeros-at}
 use Rattle.card.specs.Outcome.{outcomeOf}
 use Rattle.card.specs.Fields.{emptyCard}
 use Rattle.card.specs.Reading.{readStreams}
-use Rattle.card.specs.Parts.{verdictOf, partOf, checksPart}
-use Rattle.card.specs.ErrorMasks.{judgementNumber}
+use Rattle.card.specs.Parts.{refusalOf, judgementNumber, verdictOf, partOf, checksPart}
 use Rattle.card.specs.declared.Verdict.{Verdict}
 use Rattle.card.proofs.FieldValues.{has-value, has-fault, byte-is, standing-inside, standing-within}
 use Rattle.card.proofs.Numbers.{number-least}
 use Rattle.card.proofs.HeadStages.{top-map, map-limit}
 use Rattle.card.proofs.Judging.{union-none, judged-same, judged-union}
 use Rattle.card.proofs.RestChecks.{streams-start, streams-end, streams-fault, streams-turn, checks-end, checks-fault, checks-turn, check-fault, check-turn, check-stands, check-fails}
-use Rattle.card.proofs.CheckLoops.{AtStreams, AtChecks, AtMasks, seen-more, leftTables, tables-ended, tables-broken}
+use Rattle.card.proofs.CheckLoops.{AtStreams, AtChecks, AtMasks, seen-more, leftTables, tables-ended, tables-broken, tables-failed}
 use borrow.Author.Needs.{needs}
 use Rattle.card.proofs.checks.read_checks.Statement.{statement}
 use Rattle.card.proofs.checks.read_checks.Tie as tie
@@ -229,6 +228,10 @@ enum-known-judgement :
     tie.Need-enum-known-judgement Inv-loop2 μ-loop2 Inv-loop μ-loop Inv-card μ-card
 enum-known-judgement c = search needs
 
+refusal-of-requires :
+    tie.Need-refusal-of-requires Inv-loop2 μ-loop2 Inv-loop μ-loop Inv-card μ-card
+refusal-of-requires c κs = search needs
+
 enum-told-4 : tie.Need-enum-told-4 Inv-loop2 μ-loop2 Inv-loop μ-loop Inv-card μ-card
 enum-told-4 c = search needs
 
@@ -297,8 +300,8 @@ settled c =
     let t = w .11 .inv in
     let e = judged-same (c .before .before .before .before .args .card) (omega (arith, c .before .before .before .before .pre)) (omega (arith, c .before .before .before .before .pre)) (omega (arith, c .before .before .before .before .pre)) (t .seen) _ (let h = t .seen-are .many in let l = w .12 .left in let l₁ = t .mask-most in omega arith) (t .seen-are .within) (t .seen-are .same) _ (w .0 .taken) (t .earlier) _ (t .union) (w .15 .ensures) (w .16 .ensures)
     ∙ ap judgementNumber (w .18 .given .1) in
-    tables-broken _ _ _ _ (w .20)
-    (sym (check-fails _ _ _ _ _ _ _ _ _ _ _ _ _ (w .12 .left) e (λ z. let l = number-least (w .18 .given .0 .0) in omega arith)) ∙ t .same)))))
+    tables-failed _ _ _ _ (w .21) (w .20 .ensures)
+    (sym (check-fails _ _ _ _ _ _ _ _ _ _ _ _ _ (w .12 .left) e (λ z. let l = number-least (refusalOf (w .18 .given .0 .0)) in omega arith)) ∙ t .same)))))
     (c .card-test .came)
 
 enum-told-5 : tie.Need-enum-told-5 Inv-loop2 μ-loop2 Inv-loop μ-loop Inv-card μ-card
@@ -373,6 +376,7 @@ read-checks-spec =
     errors-by-requires
     judge-requires
     enum-known-judgement
+    refusal-of-requires
     enum-told-4
     add-q
     loop-less

@@ -9,9 +9,9 @@ use lib.Pow.{shr-le}
 use Rattle.bits.specs.Sums.{sumBelow}
 use Rattle.bits.specs.Digits.{dot}
 use Rattle.bits.proofs.Words.{masked-lt, masked-step}
-use Rattle.card.specs.ErrorMasks.{touchBy}
-use Rattle.card.proofs.errors.touch_by.Statement.{statement}
-use Rattle.card.proofs.errors.touch_by.Tie as tie
+use Rattle.orthogonal.specs.ErrorMasks.{touchBy}
+use Rattle.orthogonal.proofs.touch_by.Statement.{statement}
+use Rattle.orthogonal.proofs.touch_by.Tie as tie
 
 abbrev Inv-loop : tie.InvT-loop
 Inv-loop generators masks p s b sum₀ j₀ sum j =

@@ -8,10 +8,10 @@ use Rattle.bits.specs.Sums.{sumBelow}
 use Rattle.bits.specs.Digits.{fromDigits}
 use Rattle.bits.proofs.Sums.{sum-step}
 use Rattle.bits.proofs.Words.{shift-digit, placed-lt, placed-fits}
-use Rattle.card.specs.ErrorMasks.{touchBy, errorMask}
-use Rattle.card.proofs.ErrorMasks.{touch-lt}
-use Rattle.card.proofs.errors.error_mask.Statement.{statement}
-use Rattle.card.proofs.errors.error_mask.Tie as tie
+use Rattle.orthogonal.specs.ErrorMasks.{touchBy, errorMask}
+use Rattle.orthogonal.proofs.ErrorMasks.{touch-lt}
+use Rattle.orthogonal.proofs.error_mask.Statement.{statement}
+use Rattle.orthogonal.proofs.error_mask.Tie as tie
 
 abbrev Inv-loop : tie.InvT-loop
 Inv-loop generators masks k p m s mask₀ b₀ b-end mask b = (b ≤ m + 1) × ((mask < 2 ^ b) × (mask ≡ fromDigits b (touchBy generators masks p s)))

@@ -8,19 +8,22 @@ use Rattle.bits.specs.Sums.{sumBelow, upTo}
 use Rattle.bits.specs.Digits.{dot}
 use Rattle.bits.proofs.Sums.{sum-step, sum-end}
 use Rattle.bits.proofs.Lists.{fill-step, fill-end}
-use Rattle.card.proofs.ErrorMasks.{judged-8, judged-0, judged-9}
-use Rattle.card.proofs.errors.judge.Statement.{statement}
-use Rattle.card.proofs.errors.judge.Tie as tie
+use Rattle.orthogonal.proofs.ErrorMasks.{judged-untouched, judged-stands, judged-before}
+use Rattle.orthogonal.proofs.judge.Statement.{statement}
+use Rattle.orthogonal.proofs.judge.Tie as tie
 
 abbrev Inv-loop : tie.InvT-loop
-Inv-loop i touched own others common₀ either₀ s₀ common either s =
+Inv-loop i touched stream own others common₀ either₀ s₀ common either s =
     (s ≤ 8)
     × ((common ≤ 32 * s)
     × ((common ≡ sumBelow s (λ s. dot (getD touched s 0) (getD others s 0)))
     × ((length either ≡ 8) × (take s either ≡ upTo s (λ s. bitOr (getD touched s 0) (getD others s 0))))))
 
 abbrev μ-loop : tie.MeasureT-loop
-μ-loop i touched own others common₀ either₀ s₀ common either s = 8 - s
+μ-loop i touched stream own others common₀ either₀ s₀ common either s = 8 - s
+
+at-most-requires : tie.Need-at-most-requires Inv-loop μ-loop
+at-most-requires c κs = tt
 
 mul-own : tie.Need-mul-own Inv-loop μ-loop
 mul-own c = omega arith
@@ -29,7 +32,7 @@ array-read-own : tie.Need-array-read-own Inv-loop μ-loop
 array-read-own c = omega arith
 
 returns : tie.Need-returns Inv-loop μ-loop
-returns c = judged-8 _ _ _ (c .if1 .taken)
+returns c = judged-untouched _ _ _ (c .before .at-most .ensures) (c .if1 .taken)
 
 sub-others : tie.Need-sub-others Inv-loop μ-loop
 sub-others c = omega arith
@@ -102,11 +105,11 @@ loop-again c =
 returns-2 : tie.Need-returns-2 Inv-loop μ-loop
 returns-2 c =
     let v = c .before .before .loop .inv in
-    judged-0 _ _ _ (c .before .before .before .if1 .left) (sum-end _ _ _ (c .before .before .loop .inv .0) (c .before .loop-test .left) (c .before .before .loop .inv .1 .1 .0)) (c .if2 .taken)
+    judged-stands _ _ _ (c .before .before .before .before .at-most .ensures) (c .before .before .before .if1 .left) (sum-end _ _ _ (c .before .before .loop .inv .0) (c .before .loop-test .left) (c .before .before .loop .inv .1 .1 .0)) (c .if2 .taken)
     (fill-end _ _ _ _ (v .1 .1 .1 .0) (v .0) (c .before .loop-test .left) (v .1 .1 .1 .1))
 
 returns-3 : tie.Need-returns-3 Inv-loop μ-loop
-returns-3 c = judged-9 _ _ _ (c .before .before .before .if1 .left) (sum-end _ _ _ (c .before .before .loop .inv .0) (c .before .loop-test .left) (c .before .before .loop .inv .1 .1 .0)) (c .if2 .left)
+returns-3 c = judged-before _ _ _ (c .before .before .before .before .at-most .ensures) (c .before .before .before .if1 .left) (sum-end _ _ _ (c .before .before .loop .inv .0) (c .before .loop-test .left) (c .before .before .loop .inv .1 .1 .0)) (c .if2 .left)
 
 pub judge-spec : {M : Type 1} → statement M
 judge-spec =
@@ -114,6 +117,7 @@ judge-spec =
     (tie.spec
     Inv-loop
     μ-loop
+    at-most-requires
     mul-own
     array-read-own
     returns

@@ -1,5 +1,5 @@
 -- The judgement by masks, case by case, and the digits of the masks.
-use Prim.Native.Nat.{ℕ, zero, suc, _-_, _*_, _/_, _%_, _≤_, _<_, max}
+use Prim.Native.Nat.{ℕ, zero, suc, _-_, _*_, _/_, _%_, _≤_, _<_, min, max}
 use mathlib.Core.Path.{_≡_, refl, sym, ap, ap₂, _∙_}
 use mathlib.Core.List.{List}
 use mathlib.Core.Logic.{⊎-elim}
@@ -14,36 +14,46 @@ use Rattle.bits.proofs.Cases.{same-or-not}
 use Rattle.bits.proofs.Sums.{sum-none, none-of-sum}
 use Rattle.bits.proofs.Lists.{upTo-length, upTo-at}
 use Rattle.bits.proofs.Digits.{bit-le, bit-zero, bit-suc, bit-or}
-use Rattle.card.specs.ErrorMasks.{touchBy, errorMask, errorsBy, others, shared, joined, judgeBy}
+use Rattle.orthogonal.specs.ErrorMasks.{touchBy, errorMask, errorsBy, others, shared, joined, judgeStream, judgeBy}
+use Rattle.orthogonal.specs.declared.Failure.the-variants.{OwnDigitUntouched, ErrorTouchedBefore}
+use Rattle.orthogonal.specs.declared.Judgement.the-variants.{Stands, Fails}
+use Rattle.orthogonal.specs.declared.Judged.{Judged}
 
 pub touch-lt : (generators masks : List ℕ) (p s b : ℕ) → touchBy generators masks p s b < 2
 unfolding touchBy
 touch-lt generators masks p s b = omega arith
 
 -- ---- case by case
-module _ (errors touched : List ℕ) (i : ℕ) where
-  pub judged-8 : (getD errors i 0 % 2 ≡ 1 → ⊥) → record { number = 8; touched = touched } ≡ judgeBy errors touched i
-  unfolding judgeBy
-  judged-8 h = simp (ne-eqb _ 1 h)
+module _ (errors touched : List ℕ) (i : ℕ) {stream : ℕ} (at : stream ≡ min i 7) where
+  pub judged-untouched : (getD errors stream 0 % 2 ≡ 1 → ⊥) → record { judgement = Fails OwnDigitUntouched; touched = touched } ≡ judgeBy errors touched i
+  unfolding judgeBy judgeStream
+  judged-untouched h = simp (← at, ne-eqb _ 1 h)
 
-  module _ (own : getD errors i 0 % 2 ≡ 1) {n : ℕ} (e : n ≡ sumBelow 8 (λ s. dot (getD touched s 0) (getD (others errors i) s 0))) where
-    pub judged-0 : {l : List ℕ} → n ≡ 0 → l ≡ upTo 8 (λ s. bitOr (getD touched s 0) (getD (others errors i) s 0))
-        → record { number = 0; touched = l } ≡ judgeBy errors touched i
-    unfolding judgeBy shared joined
-    judged-0 z q = simp (eq-eqb _ 1 own, ← e, z, q)
+  module _ (own : getD errors stream 0 % 2 ≡ 1) {n : ℕ} (e : n ≡ sumBelow 8 (λ s. dot (getD touched s 0) (getD (others errors stream) s 0))) where
+    pub judged-stands : {l : List ℕ} → n ≡ 0 → l ≡ upTo 8 (λ s. bitOr (getD touched s 0) (getD (others errors stream) s 0))
+        → record { judgement = Stands; touched = l } ≡ judgeBy errors touched i
+    unfolding judgeBy judgeStream shared joined
+    judged-stands z q = simp (← at, eq-eqb _ 1 own, ← e, z, q)
 
-    pub judged-9 : (n ≡ 0 → ⊥) → record { number = 9; touched = touched } ≡ judgeBy errors touched i
-    unfolding judgeBy shared
-    judged-9 z = simp (eq-eqb _ 1 own, ← e, ne-eqb _ 0 z)
+    pub judged-before : (n ≡ 0 → ⊥) → record { judgement = Fails ErrorTouchedBefore; touched = touched } ≡ judgeBy errors touched i
+    unfolding judgeBy judgeStream shared
+    judged-before z = simp (← at, eq-eqb _ 1 own, ← e, ne-eqb _ 0 z)
 
 -- ---- digits
 pub errors-long : (g masks : List ℕ) (k p m : ℕ) → length (errorsBy g masks k p m) ≡ 8
 unfolding errorsBy
 errors-long g masks k p m = upTo-length 8 _
 
-pub errors-at : (g masks : List ℕ) (k p m s : ℕ) → s < 8 → getD (errorsBy g masks k p m) s 0 ≡ errorMask g masks k p m s
+pub errors-at : (g masks : List ℕ) (k p m s : ℕ) → p ≤ 8 → m < 32 → s < 8 → getD (errorsBy g masks k p m) s 0 ≡ errorMask g masks k p m s
 unfolding errorsBy
-errors-at g masks k p m s l = upTo-at 8 (errorMask g masks k p m) s l
+errors-at g masks k p m s hp hm l =
+    let ep : min p 8 ≡ p = omega arith in
+    let em : min m 31 ≡ m = omega arith in
+    upTo-at 8 (errorMask g masks k (min p 8) (min m 31)) s l ∙ ap₂ (λ x y. errorMask g masks k x y s) ep em
+
+pub judged-at : (errors touched : List ℕ) (i : ℕ) → i < 8 → judgeBy errors touched i ≡ judgeStream errors touched i
+unfolding judgeBy
+judged-at errors touched i l = let e : min i 7 ≡ i = omega arith in ap (λ x. judgeStream errors touched x) e
 
 odd-less : (x b : ℕ) → x % 2 ≡ 1 → bit (x - 1) (suc b) ≡ bit x (suc b)
 odd-less x b h = bit-suc (x - 1) b ∙ ap (λ n. bit n b) (let q : (x - 1) / 2 ≡ x / 2 = omega arith in q) ∙ sym (bit-suc x b)

@@ -1,19 +1,25 @@
 -- The loop has filled the masks of the streams that it passed.
 use Prim.Native.Nat.{_-_, _≤_}
-use mathlib.Core.Path.{_≡_, refl}
+use mathlib.Core.Path.{_≡_, refl, ap₂, _∙_}
 use native.Mathlib.Omega.{arith}
 use lib.ListN.{length, take, length-set}
 use Rattle.bits.specs.Sums.{upTo}
 use Rattle.bits.proofs.Lists.{fill-step, fill-end}
-use Rattle.card.specs.ErrorMasks.{errorMask, errorsBy}
-use Rattle.card.proofs.errors.errors_by.Statement.{statement}
-use Rattle.card.proofs.errors.errors_by.Tie as tie
+use Rattle.orthogonal.specs.ErrorMasks.{errorMask, errorsBy}
+use Rattle.orthogonal.proofs.errors_by.Statement.{statement}
+use Rattle.orthogonal.proofs.errors_by.Tie as tie
 
 abbrev Inv-loop : tie.InvT-loop
-Inv-loop generators masks k p m errors₀ s₀ errors s = (s ≤ 8) × ((length errors ≡ 8) × (take s errors ≡ upTo s (errorMask generators masks k p m)))
+Inv-loop generators masks k p m streams memory errors₀ s₀ errors s = (s ≤ 8) × ((length errors ≡ 8) × (take s errors ≡ upTo s (errorMask generators masks k streams memory)))
 
 abbrev μ-loop : tie.MeasureT-loop
-μ-loop generators masks k p m errors₀ s₀ errors s = 8 - s
+μ-loop generators masks k p m streams memory errors₀ s₀ errors s = 8 - s
+
+at-most-requires : tie.Need-at-most-requires Inv-loop μ-loop
+at-most-requires c κs = tt
+
+at-most-requires-2 : tie.Need-at-most-requires-2 Inv-loop μ-loop
+at-most-requires-2 c κs = tt
 
 loop-holds : tie.Need-loop-holds Inv-loop μ-loop
 unfolding upTo
@@ -41,7 +47,11 @@ loop-again c =
 
 returns : tie.Need-returns Inv-loop μ-loop
 unfolding errorsBy
-returns c = let v = c .before .loop .inv in fill-end _ _ _ _ (v .1 .0) (v .0) (c .loop-test .left) (v .1 .1)
+returns c =
+    let v = c .before .loop .inv in
+    let a = c .before .before .before .before .args in
+    fill-end _ _ _ _ (v .1 .0) (v .0) (c .loop-test .left) (v .1 .1)
+    ∙ ap₂ (λ x y. upTo 8 (errorMask (a .generators .now) (a .masks .now) (a .k) x y)) (c .before .before .before .at-most .ensures) (c .before .before .at-most2 .ensures)
 
 pub errors-by-spec : {M : Type 1} → statement M
 errors-by-spec =
@@ -49,6 +59,8 @@ errors-by-spec =
     (tie.spec
     Inv-loop
     μ-loop
+    at-most-requires
+    at-most-requires-2
     loop-holds
     error-mask-requires
     mul-errors

@@ -1,24 +1,30 @@
-// The errors that a check touches, as a mask of offsets for each stream, and the judgement of a check by them.
+// Whether the checks of a stream are orthogonal, check by check: the errors that a check touches, as a mask of offsets for each stream, and the
+// judgement by them.
 ghost use mathlib.Core.Path.{_≡_};
 ghost use Prim.Native.Nat.{_<_, _≤_};
-ghost use Rattle.card.specs.ErrorMasks.{touchBy, errorMask, errorsBy, judgedOf, judgeBy};
-use crate::Refusal;
+ghost use Rattle.orthogonal.specs.ErrorMasks.{touchBy, errorMask, errorsBy, judgeBy};
+
+// Why a check does not stand.
+pub enum Failure {
+    OwnDigitUntouched,
+    ErrorTouchedBefore,
+}
 
 // Whether a whole check stands.
-pub(crate) enum Judgement {
+pub enum Judgement {
     Stands,
-    Fails(Refusal),
+    Fails(Failure),
 }
 
 // The judgement, and the errors that the checks of the stream touch so far, their own digit's left out.
-pub(crate) struct Judged {
+pub struct Judged {
     pub judgement: Judgement,
     pub touched: [u32; 8],
 }
 
 // 1 if the check touches the error of information stream s at offset b.
 fn touch_by(generators: &[u32; 32], masks: &[u32; 8], p: usize, s: usize, b: usize) -> u32
-    requires { ⌜ (p ≤ 8) × ((s < 4) × (b < 32)) ⌝ }
+    requires { ⌜ (p ≤ 8) × ((s < 8) × (b < 32)) ⌝ }
     ensures { λ r. ⌜ r ≡ touchBy (now (generators .entry)) (now (masks .entry)) p s b ⌝ }
 {
     let mut sum: u32 = 0;
@@ -37,7 +43,7 @@ fn error_mask(
     m: usize,
     s: usize,
 ) -> u32
-    requires { ⌜ (k ≤ 4) × ((p ≤ 8) × ((m < 32) × (s < 8))) ⌝ }
+    requires { ⌜ (p ≤ 8) × ((m < 32) × (s < 8)) ⌝ }
     ensures { λ r. ⌜ r ≡ errorMask (now (generators .entry)) (now (masks .entry)) k p m s ⌝ }
 {
     if k <= s {
@@ -50,39 +56,34 @@ fn error_mask(
     mask
 }
 
-// The errors that the check touches, by stream.
-pub(crate) fn errors_by(
-    generators: &[u32; 32],
-    masks: &[u32; 8],
-    k: usize,
-    p: usize,
-    m: usize,
-) -> [u32; 8]
-    requires { ⌜ (k ≤ 4) × ((p ≤ 8) × (m < 32)) ⌝ }
+// The errors that the check touches, by stream. More parity streams or memory than the tables and words have are not looked at.
+pub fn errors_by(generators: &[u32; 32], masks: &[u32; 8], k: usize, p: usize, m: usize) -> [u32; 8]
     ensures { λ r. ⌜ r ≡ errorsBy (now (generators .entry)) (now (masks .entry)) k p m ⌝ }
 {
+    let streams = bits::at_most(p, 8);
+    let memory = bits::at_most(m, 31);
     let mut errors = [0u32; 8];
     for s in 0..8 {
-        errors[s] = error_mask(generators, masks, k, p, m, s);
+        errors[s] = error_mask(generators, masks, k, streams, memory, s);
     }
     errors
 }
 
-// A whole check of stream i, by the errors that it touches and those that the earlier checks of its stream touch:
-// 8 is tested before 9.
-pub(crate) fn judge(errors: [u32; 8], touched: [u32; 8], i: usize) -> Judged
-    requires { ⌜ i < 8 ⌝ }
-    ensures { λ r. ⌜ judgedOf r ≡ judgeBy errors touched i ⌝ }
+// A whole check of stream i, the last one where there is none, by the errors that it touches and those that the earlier checks of its stream
+// touch: its own digit is tested first.
+pub fn judge(errors: [u32; 8], touched: [u32; 8], i: usize) -> Judged
+    ensures { λ r. ⌜ r ≡ judgeBy errors touched i ⌝ }
 {
-    let own = errors[i];
+    let stream = bits::at_most(i, 7);
+    let own = errors[stream];
     if own % 2 != 1 {
         return Judged {
-            judgement: Judgement::Fails(Refusal::OwnDigitUntouched),
+            judgement: Judgement::Fails(Failure::OwnDigitUntouched),
             touched,
         };
     }
     let mut others = errors;
-    others[i] = own - 1;
+    others[stream] = own - 1;
     let mut common: u32 = 0;
     let mut either = [0u32; 8];
     for s in 0..8 {
@@ -96,7 +97,7 @@ pub(crate) fn judge(errors: [u32; 8], touched: [u32; 8], i: usize) -> Judged
         };
     }
     Judged {
-        judgement: Judgement::Fails(Refusal::ErrorTouchedBefore),
+        judgement: Judgement::Fails(Failure::ErrorTouchedBefore),
         touched,
     }
 }
