@@ -88,3 +88,10 @@ pub fn size(x: u8) -> usize
 {
     x as usize
 }
+
+// A word as an index.
+pub fn index(x: u32) -> usize
+    ensures { λ r. ⌜ r ≡ x ⌝ }
+{
+    x as usize
+}

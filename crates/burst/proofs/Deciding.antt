@@ -8,29 +8,28 @@ use mathlib.Core.List.{List, [], _∷_, _++_}
 use native.Mathlib.Nat.{mod-eq-of-lt, add-mod-mod, mod-lt}
 use native.Mathlib.Omega.{arith}
 use lib.ListN.{length, getD}
-use lib.Dec.{ltb}
 use lib.Bits.{bitXor, xor-lt}
 use lib.Pow.{pow-pos}
 use borrow.Author.Tests.{lt-ltb, le-ltb, le-leb, lt-leb}
 use Rattle.bits.specs.Sums.{sumBelow}
-use Rattle.bits.specs.Digits.{bit, dot}
-use Rattle.bits.proofs.Sums.{sum-same, sum-cong, sum-cut, sum-none}
+use Rattle.bits.specs.Digits.{bit}
+use Rattle.bits.proofs.Sums.{sum-none}
 use Rattle.bits.proofs.Lists.{part-at}
 use Rattle.bits.proofs.Back.{back-in}
 use Rattle.bits.proofs.Cases.{le-or-lt}
 use Rattle.bits.proofs.Digits.{bit-lt, bit-mod, bit-xor, bit-of-zero, from-digits-same, from-digits-bits}
 use Rattle.card.specs.Code.{generator, digit}
-use Rattle.card.specs.Checks.{count, checkMask}
 use Rattle.card.specs.Guarantees.{Guarantees}
 use Rattle.card.specs.declared.Card.{Card}
-use Rattle.majority.specs.Rule.{cleared, checkAt, votes, decide, decideFrame, decided, corrected}
+use Rattle.majority.specs.Rule.{cleared, decideFrame, decided, corrected}
+use Rattle.majority.specs.Voting.{decideBy}
+use Rattle.majority.proofs.Voting.{decide-lt-k, decide-is}
 use Rattle.majority.proofs.Streams.{decided-length, decided-at}
 use Rattle.majority.proofs.Feedback.{cleared-fed}
-use Rattle.burst.specs.Registers.{generatorSums, checkBy, votesBy, majorityBy, decideBy, takenOut, Corrected}
+use Rattle.burst.specs.Registers.{generatorSums, takenOut, Corrected}
 use Rattle.burst.specs.Held.{syndromeHeld, Before, With}
 use Rattle.burst.proofs.Coming.{generator-beyond}
 use Rattle.burst.proofs.Following.{sums-bit}
-use Rattle.burst.proofs.Voting.{decide-lt}
 
 module _ (c : Card) (G : Guarantees c) (frames : List ℕ) (t : ℕ) (coming syndromes : List ℕ) (W : With c frames t coming syndromes) (hm : c .m ≤ t) where
   -- place a has the syndrome of time t - m + a
@@ -47,30 +46,13 @@ module _ (c : Card) (G : Guarantees c) (frames : List ℕ) (t : ℕ) (coming syn
   held-beyond : (j a : ℕ) → j < c .p → c .m < a → bit (getD syndromes j 0) a ≡ 0
   held-beyond j a hj ha = W .held-at j a hj ∙ ap (λ b. cond b (syndromeHeld c frames t j a) 0) (lt-leb a (c .m) ha)
 
-  check-is : (i q : ℕ) → checkBy (c .checks) (i * 128 + q * 8) syndromes (c .p) ≡ checkAt c frames (decided c frames (t - c .m)) (t - c .m) i q
-  unfolding checkBy checkAt dot checkMask
-  check-is i q = ap (λ x. x % 2) (sum-same (c .p) _ _ part)
-    where
-      part : (j : ℕ) → j < c .p → dot (getD (c .checks) (i * 128 + q * 8 + j) 0) (getD syndromes j 0)
-          ≡ sumBelow (suc (c .m)) (λ a. bit (getD (c .checks) (i * 128 + q * 8 + j) 0) a * cleared c frames (decided c frames (t - c .m)) (t - c .m + a) j)
-      part j hj =
-          let g = getD (c .checks) (i * 128 + q * 8 + j) 0 in
-          sum-cut 32 (suc (c .m)) (λ a. bit g a * bit (getD syndromes j 0) a) (omega (arith, G .m-most))
-          (λ a l. ap (λ x. bit g a * x) (held-beyond j a hj (omega arith)) ∙ omega arith)
-          ∙ sum-same (suc (c .m)) _ _ (λ a l. ap (λ x. bit g a * x) (held-then j a hj (omega arith)))
-
-  majority-is : (i : ℕ) → majorityBy (c .counts) (c .checks) syndromes (c .p) i ≡ decide c frames (decided c frames (t - c .m)) (t - c .m) i
-  unfolding majorityBy votesBy decide votes count
-  majority-is i = ap (λ x. cond (ltb (getD (c .counts) i 0) (2 * x)) 1 0) (sum-cong (getD (c .counts) i 0) (λ q. check-is i q))
-
   -- the registers decide as the rule does
-  pub decide-is : decideBy (c .counts) (c .checks) syndromes (c .k) (c .p) ≡ decideFrame c frames (decided c frames (t - c .m)) (t - c .m)
-  unfolding decideBy decideFrame
-  decide-is = from-digits-same (c .k) _ _ (λ i l. majority-is i)
+  decide-then : decideBy (c .counts) (c .checks) syndromes (c .k) (c .p) ≡ decideFrame c frames (decided c frames (t - c .m)) (t - c .m)
+  decide-then = decide-is c G frames (decided c frames (t - c .m)) (t - c .m) syndromes held-then held-beyond
 
   module _ (after : List ℕ) (errors : ℕ) (C : Corrected (generatorSums (c .generators)) (c .counts) (c .checks) syndromes (c .k) (c .p) after errors) where
     errors-lt : errors < 2 ^ c .k
-    errors-lt = rw (C .errors-are) (decide-lt (c .counts) (c .checks) syndromes (c .p) (c .k))
+    errors-lt = rw (C .errors-are) (decide-lt-k (c .counts) (c .checks) syndromes (c .k) (c .p) (G .k-most))
 
     -- the generators of the streams in error are taken out, or there is nothing to take out
     fed-bit : (j a : ℕ) → j < c .p → bit (getD after j 0) a ≡ (bit (getD syndromes j 0) a + sumBelow (c .k) (λ i. generator c i j a * bit errors i)) % 2
@@ -91,7 +73,7 @@ module _ (c : Card) (G : Guarantees c) (frames : List ℕ) (t : ℕ) (coming syn
 
     -- the errors are those of the rule
     pub errors-is : errors ≡ decideFrame c frames (decided c frames (t - c .m)) (t - c .m)
-    errors-is = C .errors-are ∙ decide-is
+    errors-is = C .errors-are ∙ decide-then
 
     fed-then : (j a : ℕ) → j < c .p → a < c .m
         → (bit (getD syndromes j 0) (suc a) + sumBelow (c .k) (λ i. generator c i j (suc a) * bit errors i)) % 2 ≡ syndromeHeld c frames (suc t) j a

@@ -16,7 +16,7 @@ use Rattle.card.specs.declared.Card.{Card}
 use Rattle.majority.specs.Rule.{decided, corrected, decoded}
 use Rattle.burst.specs.Registers.{generatorSums, written, TakenIn, takenOut, Corrected}
 use Rattle.burst.specs.Held.{With, cardWith, Carried, HandedOut}
-use Rattle.burst.proofs.Voting.{decide-lt}
+use Rattle.majority.proofs.Voting.{decide-lt}
 use Rattle.burst.proofs.Following.{taken-in}
 use Rattle.burst.proofs.Waiting.{start}
 use Rattle.burst.proofs.Deciding.{fed-back, handed-out}
@@ -34,7 +34,7 @@ module _ {sums counts checks syndromes after : List ℕ} {k p errors : ℕ} (C :
       (λ w. ap length w ∙ part-length (takenOut sums syndromes errors) syndromes p (omega arith) ∙ e) (C .after-is)
 
   pub errors-small : k ≤ 4 → errors < 16
-  errors-small hk = rw (C .errors-are) (lt-of-lt-of-le (decide-lt counts checks syndromes p k) (pow-mono {i = k} {j = 4} hk))
+  errors-small hk = rw (C .errors-are) (decide-lt counts checks syndromes k p)
 
 -- nothing is handed out before the frame of time m
 pub hand-none : (sums counts checks frames coming syndromes output : List ℕ) (k p m : ℕ)

@@ -2,7 +2,6 @@ pub mod Answers
 pub mod Outcomes
 pub mod Sending
 pub mod TakingIn
-pub mod Voting
 pub mod Coming
 pub mod Following
 pub mod Deciding

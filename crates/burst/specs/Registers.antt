@@ -1,16 +1,15 @@
 -- The burst receiver by registers: what its functions compute, for tables and registers of every value. Nobody has to believe this file: the
--- laws in proofs/ tie it to the rule on whole streams (`decoder`, `Rule`).
+-- laws in proofs/ tie it to the rule on whole streams (`majority`, `Rule`).
 -- Assumes nothing.
 use Prim.Native.Nat.{ℕ, _+_, _*_, _/_, _%_, _^_, _≤_, _<_}
 use mathlib.Core.Path.{_≡_}
-use mathlib.Core.Bool.{cond}
 use mathlib.Core.Logic.{_⊎_}
 use mathlib.Core.List.{List, _++_}
 use lib.ListN.{getD, drop}
 use lib.Bits.{bitXor}
-use lib.Dec.{ltb}
-use Rattle.bits.specs.Sums.{sumBelow, xorBelow, upTo}
-use Rattle.bits.specs.Digits.{bit, fromDigits, dot, shiftUp}
+use Rattle.bits.specs.Sums.{xorBelow, upTo}
+use Rattle.bits.specs.Digits.{bit, shiftUp}
+use Rattle.majority.specs.Voting.{decideBy}
 
 -- the exclusive or of the generators, on parity stream j, of the information streams in x
 unfoldable pub generatorSum : List ℕ → ℕ → ℕ → ℕ
@@ -43,22 +42,6 @@ pub record TakenIn (sums coming syndromes : List ℕ) (k p m f : ℕ) (comingAft
   pub syndromes-is : syndromesAfter ≡ written p (syndromesNext sums coming syndromes k m f) syndromes
   pub none-held : held ≡ 0 → (j : ℕ) → j < p → syndromesNext sums coming syndromes k m f j ≡ 0
 
--- the check whose masks begin at `at`
-unfoldable pub checkBy : List ℕ → ℕ → List ℕ → ℕ → ℕ
-checkBy checks at syndromes p = sumBelow p (λ j. dot (getD checks (at + j) 0) (getD syndromes j 0)) % 2
-
--- how many of the first n checks of stream i are 1
-unfoldable pub votesBy : List ℕ → ℕ → ℕ → List ℕ → ℕ → ℕ
-votesBy checks i n syndromes p = sumBelow n (λ q. checkBy checks (i * 128 + q * 8) syndromes p)
-
--- 1 if more than half of the checks of stream i are
-unfoldable pub majorityBy : List ℕ → List ℕ → List ℕ → ℕ → ℕ → ℕ
-majorityBy counts checks syndromes p i = cond (ltb (getD counts i 0) (2 * votesBy checks i (getD counts i 0) syndromes p)) 1 0
-
--- the errors decided
-unfoldable pub decideBy : List ℕ → List ℕ → List ℕ → ℕ → ℕ → ℕ
-decideBy counts checks syndromes k p = fromDigits k (majorityBy counts checks syndromes p)
-
 -- syndrome register j with the errors e taken out
 unfoldable pub takenOut : List ℕ → List ℕ → ℕ → ℕ → ℕ
 takenOut sums syndromes e j = bitXor (getD syndromes j 0) (getD sums (e * 8 + j) 0)
@@ -67,10 +50,3 @@ takenOut sums syndromes e j = bitXor (getD syndromes j 0) (getD sums (e * 8 + j)
 pub record Corrected (sums counts checks syndromes : List ℕ) (k p : ℕ) (after : List ℕ) (errors : ℕ) : Type 0 where
   pub errors-are : errors ≡ decideBy counts checks syndromes k p
   pub after-is : ((errors ≡ 0) × (after ≡ syndromes)) ⊎ (after ≡ written p (takenOut sums syndromes errors) syndromes)
-
--- numbers that keep the loops within their tables and words: those of every accepted card
-pub record InTables (k p m : ℕ) (counts : List ℕ) : Type 0 where
-  pub k-most : k ≤ 4
-  pub n-most : k + p ≤ 8
-  pub m-most : m ≤ 31
-  pub J-most : (i : ℕ) → getD counts i 0 ≤ 16

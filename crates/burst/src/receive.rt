@@ -7,7 +7,6 @@ ghost use Rattle.card.specs.Guarantees.{Guarantees};
 ghost use Rattle.burst.specs.Outcome.{outcome};
 ghost use Rattle.burst.specs.Receiving.{receiveUnder, receiveOf};
 ghost use Rattle.burst.specs.Claims.{ComesOutAsSent};
-ghost use Rattle.burst.specs.Registers.{InTables};
 ghost use Rattle.burst.specs.Held.{Carried, HandedOut, ReceivedBy};
 use crate::answer::frames;
 use crate::answer::refused;
@@ -42,19 +41,19 @@ fn fill(
 }
 
 // For each frame after the first m the one m before it, corrected.
-fn hand_out(
+fn hand_out<'a>(
     syndromes: &mut [u32; 8],
     coming: &mut [u32; 8],
     sums: &[u32; 128],
-    counts: &[usize; 4],
-    checks: &[u32; 512],
+    counts: &'a [usize; 4],
+    checks: &'a [u32; 512],
     k: usize,
     p: usize,
     m: usize,
     input: &[u8],
     output: &mut [u8],
 )
-    requires { ⌜ InTables k p m (now counts) ⌝ }
+    requires { ⌜ (k ≤ 4) × (k + p ≤ 8) × (m ≤ 31) ⌝ }
     requires { ⌜ (length (now syndromes) ≡ 8) × (length (now coming) ≡ 8) ⌝ }
     requires { ⌜ (m ≤ length (now input)) × (length (now input) ≤ length (now output) + m) ⌝ }
     ensures { λ r. ⌜ HandedOut (now (sums .entry)) (now (counts .entry)) (now (checks .entry)) k p m (now (input .entry)) (length (now (input .entry))) (now (coming .entry)) (now (syndromes .entry)) (now (output .entry)) (now (coming .exit)) (now (syndromes .exit)) (now (output .exit)) ⌝ }
@@ -80,7 +79,7 @@ fn receive_frames<'a>(
     input: &[u8],
     output: &mut [u8],
 )
-    requires { ⌜ InTables k p m (now counts) ⌝ }
+    requires { ⌜ (k ≤ 4) × (k + p ≤ 8) × (m ≤ 31) ⌝ }
     requires { ⌜ length (now input) ≤ length (now output) + m ⌝ }
     ensures { λ r. ⌜ ReceivedBy (now (generators .entry)) (now (counts .entry)) (now (checks .entry)) k p m (now (input .entry)) (now (output .entry)) (now (output .exit)) ⌝ }
 {

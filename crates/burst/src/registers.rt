@@ -8,13 +8,7 @@ ghost use lib.ListN.{getD, length};
 ghost use lib.Bits.{bitAnd, bitXor};
 ghost use lib.Dec.{ltb};
 ghost use Rattle.bits.specs.Digits.{shiftUp};
-ghost use Rattle.burst.specs.Registers.{generatorSum, generatorSums, TakenIn, written, checkBy, votesBy, decideBy, takenOut, Corrected};
-
-fn size(x: u32) -> usize
-    ensures { λ r. ⌜ r ≡ x ⌝ }
-{
-    x as usize
-}
+ghost use Rattle.burst.specs.Registers.{generatorSum, generatorSums, TakenIn, written, takenOut, Corrected};
 
 // Streams 1 to k of a frame.
 fn information(frame: u8, k: usize) -> u32
@@ -45,7 +39,7 @@ pub(crate) fn generator_sums(generators: &[u32; 32]) -> [u32; 128]
     let mut sums = [0u32; 128];
     let mut at: u32 = 0;
     while at < 128 {
-        sums[size(at)] = generator_sum(generators, at / 8, size(at % 8));
+        sums[bits::index(at)] = generator_sum(generators, at / 8, bits::index(at % 8));
         at += 1;
     }
     sums
@@ -73,7 +67,7 @@ pub(crate) fn take_in(
     requires { ⌜ (length (now syndromes) ≡ 8) × (length (now coming) ≡ 8) ⌝ }
     ensures { λ r. ⌜ TakenIn (now (sums .entry)) (now (coming .entry)) (now (syndromes .entry)) k p m frame (now (coming .exit)) (now (syndromes .exit)) r ⌝ }
 {
-    let at = size(information(frame, k)) * 8;
+    let at = bits::index(information(frame, k)) * 8;
     let parities = bits::wide(frame) >> k;
     let mut held: u32 = 0;
     let mut j = 0;
@@ -88,69 +82,12 @@ pub(crate) fn take_in(
     held
 }
 
-// The digits that are 1 in both.
-fn common(x: u32, y: u32) -> u32
-    ensures { λ r. ⌜ r ≡ bitAnd x y ⌝ }
-{
-    x & y
-}
-
-// The check whose masks begin there: 0 or 1.
-fn check(checks: &[u32; 512], at: usize, syndromes: &[u32; 8], p: usize) -> u32
-    requires { ⌜ (at ≤ 504) × (p ≤ 8) ⌝ }
-    ensures { λ r. ⌜ r ≡ checkBy (now (checks .entry)) at (now (syndromes .entry)) p ⌝ }
-{
-    let mut sum: u32 = 0;
-    let mut j = 0;
-    while j < p {
-        sum = sum ^ common(checks[at + j], syndromes[j]);
-        j += 1;
-    }
-    u32::count_ones(sum) % 2
-}
-
-// How many of the checks of stream i are 1: each is a digit of a word, and the word's ones are counted once.
-fn votes(checks: &[u32; 512], i: usize, count: usize, syndromes: &[u32; 8], p: usize) -> u32
-    requires { ⌜ (i < 4) × (count ≤ 16) × (p ≤ 8) ⌝ }
-    ensures { λ r. ⌜ r ≡ votesBy (now (checks .entry)) i count (now (syndromes .entry)) p ⌝ }
-{
-    let mut word: u32 = 0;
-    let mut q = 0;
-    while q < count {
-        word = word * 2 + check(checks, i * 128 + q * 8, syndromes, p);
-        q += 1;
-    }
-    u32::count_ones(word)
-}
-
-// 1 if more than half of the checks are. A tie gives 0.
-fn majority(count: usize, ones: u32) -> u32
-    ensures { λ r. ⌜ r ≡ cond (ltb count (2 * ones)) 1 0 ⌝ }
-{
-    if count < 2 * size(ones) { 1 } else { 0 }
-}
-
-// The decided errors of the frame m before the last one taken in.
-fn decide(counts: &[usize; 4], checks: &[u32; 512], syndromes: &[u32; 8], k: usize, p: usize) -> u32
-    requires { ⌜ (k ≤ 4) × (p ≤ 8) × ((i : ℕ) → getD (now counts) i 0 ≤ 16) ⌝ }
-    ensures { λ r. ⌜ r ≡ decideBy (now (counts .entry)) (now (checks .entry)) (now (syndromes .entry)) k p ⌝ }
-{
-    let mut errors: u32 = 0;
-    let mut i = 0;
-    while i < k {
-        let count = counts[i];
-        errors = errors + (majority(count, votes(checks, i, count, syndromes, p)) << i);
-        i += 1;
-    }
-    errors
-}
-
 // Errors fed back: their generators taken out of the syndromes.
 fn take_out(syndromes: &mut [u32; 8], sums: &[u32; 128], p: usize, errors: u32)
     requires { ⌜ (p ≤ 8) × (errors < 16) × (length (now syndromes) ≡ 8) ⌝ }
     ensures { λ r. ⌜ now (syndromes .exit) ≡ written p (takenOut (now (sums .entry)) (now (syndromes .entry)) errors) (now (syndromes .entry)) ⌝ }
 {
-    let at = size(errors) * 8;
+    let at = bits::index(errors) * 8;
     let mut j = 0;
     while j < p {
         syndromes[j] = syndromes[j] ^ sums[at + j];
@@ -159,23 +96,23 @@ fn take_out(syndromes: &mut [u32; 8], sums: &[u32; 128], p: usize, errors: u32)
 }
 
 // The errors of the frame m before the last one taken in, decided and fed back. While no syndrome held is 1 there is no vote.
-pub(crate) fn correct(
+pub(crate) fn correct<'a>(
     syndromes: &mut [u32; 8],
     held: u32,
     sums: &[u32; 128],
-    counts: &[usize; 4],
-    checks: &[u32; 512],
+    counts: &'a [usize; 4],
+    checks: &'a [u32; 512],
     k: usize,
     p: usize,
 ) -> u32
-    requires { ⌜ (k ≤ 4) × (p ≤ 8) × ((i : ℕ) → getD (now counts) i 0 ≤ 16) × (length (now syndromes) ≡ 8) ⌝ }
+    requires { ⌜ (p ≤ 8) × (length (now syndromes) ≡ 8) ⌝ }
     requires { ⌜ (held ≡ 0 → (j : ℕ) → j < p → getD (now syndromes) j 0 ≡ 0) ⌝ }
     ensures { λ r. ⌜ Corrected (now (sums .entry)) (now (counts .entry)) (now (checks .entry)) (now (syndromes .entry)) k p (now (syndromes .exit)) r ⌝ }
 {
     if held == 0 {
         return 0;
     }
-    let errors = decide(counts, checks, syndromes, k, p);
+    let errors = majority::decide(counts, checks, syndromes, k, p);
     if errors != 0 {
         take_out(syndromes, sums, p, errors);
     }

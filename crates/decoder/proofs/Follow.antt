@@ -16,12 +16,13 @@ use Rattle.card.specs.Registers.{historyBy}
 use Rattle.card.specs.declared.Card.{Card}
 use Rattle.card.proofs.Registers.{HistoryBefore, HistoryWith, history-later, history-next}
 use Rattle.majority.specs.Rule.{decideFrame, decided}
-use Rattle.decoder.specs.Registers.{withSyndromes, decideFrameBy, correctedBy, fedBackBy}
+use Rattle.majority.specs.Voting.{decideBy}
+use Rattle.decoder.specs.Registers.{withSyndromes, correctedBy, fedBackBy}
 use Rattle.decoder.specs.Answers.{Given, waiting, frame, Reply}
 use Rattle.decoder.specs.Receive.{kOf, pOf, historyWith, syndromesWith, withFrame, errorsOf, handingOf, takenOf, refusedOf}
 use Rattle.decoder.specs.Calls.{Call, replyOf, frameIn, taken, takenFrames, handedBy, handedOut, takenAnswers, sessionAfter, answersBy}
 use Rattle.decoder.specs.declared.Session.{Session}
-use Rattle.decoder.proofs.Step.{SyndromesAt, syndromes-next, decide-frame-next, corrected-next, fed-next}
+use Rattle.decoder.proofs.Step.{SyndromesAt, syndromes-next, decide-next, corrected-next, fed-next}
 use Rattle.decoder.proofs.Outcomes.{taken-waiting, taken-handing, outcome}
 use Rattle.decoder.proofs.Answers.{answers-length, first-waiting, then-frames, handedIn}
 
@@ -51,7 +52,7 @@ module _ (c : Card) (G : Guarantees c) (h y : List ℕ) (t f : ℕ) where
   pub waits : t < c .m → takenOf (session c h y t) f ≡ record { answer = waiting; session = session c h′ y′ (suc t) }
   waits l = taken-waiting (session c h y t) f l ∙ ap (λ (s : Session). record { answer = waiting; session = s }) with-frame
 
-  pub hands-out : (e : ℕ) → decideFrameBy (c .checks) (c .counts) y′ (c .k) (c .p) ≡ e → c .m ≤ t
+  pub hands-out : (e : ℕ) → decideBy (c .counts) (c .checks) y′ (c .k) (c .p) ≡ e → c .m ≤ t
       → takenOf (session c h y t) f
       ≡ record { answer = frame (correctedBy h′ e (c .k) (c .m)); session = session c h′ (fedBackBy y′ (c .generators) e (c .k) (c .p)) (suc t) }
   hands-out e q l = taken-handing (session c h y t) f l ∙ ap handingOf with-frame ∙ decided-as
@@ -156,7 +157,7 @@ module _ (c : Card) (G : Guarantees c) (frames : List ℕ) where
       let d = decideFrame c frames (decided c frames u) u in
       let b = fedBackBy z (c .generators) d (c .k) (c .p) in
       let v : suc u ≡ suc t - c .m = omega arith in
-      let r = hands-out c G h y t f d (decide-frame-next c G frames t u refl l z Y′) l in
+      let r = hands-out c G h y t f d (decide-next c G frames t u refl l z Y′) l in
       after-taken c frames call calls t s (session c g b (suc t)) (frame (correctedBy g d (c .k) (c .m))) (w .0) (w .1 ∙ r)
       (then-frames c frames t hn l
       ∙ ap (λ (x : ℕ). frame x ∷ drop (suc t) (answersBy c frames)) (sym (corrected-next c G frames t u refl l z Y′ g H′ (length frames - c .m) (omega arith))))

@@ -5,28 +5,29 @@ use mathlib.Core.Path.{_≡_, sym, ap, ap₂, _∙_}
 use mathlib.Core.Bool.{cond}
 use mathlib.Core.Logic.{⊎-elim}
 use mathlib.Core.List.{List, [], _∷_, _++_}
-use native.Mathlib.Nat.{eq-or-lt-of-le, mul-zero, zero-mul}
+use native.Mathlib.Nat.{eq-or-lt-of-le, zero-mul}
 use native.Mathlib.Omega.{arith}
 use lib.ListN.{length, getD, replicate}
 use lib.Dec.{ltb}
 use lib.Bits.{bitXor}
 use borrow.Author.Tests.{lt-ltb, le-ltb}
 use Rattle.bits.specs.Sums.{sumBelow}
-use Rattle.bits.specs.Digits.{bit, dot, shiftUp}
+use Rattle.bits.specs.Digits.{bit, shiftUp}
 use Rattle.bits.proofs.Cases.{le-or-lt}
-use Rattle.bits.proofs.Sums.{sum-same, sum-cut, sum-none}
+use Rattle.bits.proofs.Sums.{sum-same, sum-none}
 use Rattle.bits.proofs.Lists.{part-at}
 use Rattle.bits.proofs.Back.{back-in}
 use Rattle.bits.proofs.Digits.{bit-lt, bit-suc, bit-high, bit-xor, bit-masks, place-same, place-other, from-digits-same}
 use Rattle.bits.proofs.Words.{shift-digit}
 use Rattle.card.specs.Code.{generator, digit}
-use Rattle.card.specs.Checks.{count, checkMask}
 use Rattle.card.specs.Guarantees.{Guarantees}
 use Rattle.card.specs.Registers.{generatorMask}
 use Rattle.card.specs.declared.Card.{Card}
 use Rattle.card.proofs.Registers.{HistoryWith, in-table, parity-next}
-use Rattle.majority.specs.Rule.{syndrome, cleared, checkAt, votes, decide, decideFrame, decided, corrected}
-use Rattle.decoder.specs.Registers.{syndromeBy, withSyndromes, checkBy, votesBy, decideBy, decideFrameBy, correctedBy, feedbackBy, fedBackBy}
+use Rattle.majority.specs.Rule.{syndrome, cleared, decideFrame, decided, corrected}
+use Rattle.decoder.specs.Registers.{syndromeBy, withSyndromes, correctedBy, feedbackBy, fedBackBy}
+use Rattle.majority.specs.Voting.{decideBy}
+use Rattle.majority.proofs.Voting.{decide-is}
 use Rattle.majority.proofs.Streams.{decided-length, decided-at}
 use Rattle.majority.proofs.Feedback.{cleared-lt, syndrome-lt, cleared-new, cleared-fed}
 
@@ -93,30 +94,11 @@ module _ (c : Card) (G : Guarantees c) (frames : List ℕ) (t u : ℕ) (hu : u �
 
   -- ---- the frame of time u is decided
   module _ (hm : c .m ≤ t) (y : List ℕ) (Y : SyndromesAt c frames u (suc t) y) where
-    check-next : (i q : ℕ) → checkBy (c .checks) y (c .p) i q ≡ checkAt c frames (decided c frames u) u i q
-    unfolding checkBy checkAt checkMask dot
-    check-next i q = ap (λ (x : ℕ). x % 2) (sum-same (c .p) _ _ part)
-      where
-        part : (j : ℕ) → j < c .p
-            → dot (getD (c .checks) (i * 128 + q * 8 + j) 0) (getD y j 0)
-            ≡ sumBelow (suc (c .m)) (λ a. bit (checkMask c i q j) a * cleared c frames (decided c frames u) (u + a) j)
-        part j l =
-            let g = getD (c .checks) (i * 128 + q * 8 + j) 0 in
-            let errors = decided c frames u in
-            sum-cut 32 (suc (c .m)) (λ a. bit g a * bit (getD y j 0) a) (omega (arith, G .m-most))
-            (λ a w. ap (λ (x : ℕ). bit g a * x) (Y j a l ∙ held-out c frames errors u (suc t) j a (omega arith)) ∙ mul-zero (bit g a))
-            ∙ sum-same (suc (c .m)) _ _ (λ a w. ap (λ (x : ℕ). bit g a * x) (Y j a l ∙ held-in c frames errors u (suc t) j a (omega arith)))
-
-    decide-next : (i : ℕ) → decideBy (c .checks) y (c .p) i (min (getD (c .counts) i 0) 16) ≡ decide c frames (decided c frames u) u i
-    unfolding decideBy decide votesBy votes count
-    decide-next i =
-        let J = getD (c .counts) i 0 in
-        let e : min J 16 ≡ J = omega (arith, G .J-most i) in
-        ap (λ (x : ℕ). decideBy (c .checks) y (c .p) i x) e ∙ ap (λ (x : ℕ). cond (ltb J (2 * x)) 1 0) (sum-same J _ _ (λ q l. check-next i q))
-
-    pub decide-frame-next : decideFrameBy (c .checks) (c .counts) y (c .k) (c .p) ≡ decideFrame c frames (decided c frames u) u
-    unfolding decideFrameBy decideFrame
-    decide-frame-next = from-digits-same (c .k) _ _ (λ i l. decide-next i)
+    pub decide-next : decideBy (c .counts) (c .checks) y (c .k) (c .p) ≡ decideFrame c frames (decided c frames u) u
+    decide-next =
+        let errors = decided c frames u in
+        decide-is c G frames errors u y (λ j a hj l. Y j a hj ∙ held-in c frames errors u (suc t) j a (omega arith))
+        (λ j a hj l. Y j a hj ∙ held-out c frames errors u (suc t) j a (omega arith))
 
     -- the frame handed out is the rule's, whatever is decided later
     pub corrected-next : (h : List ℕ) → HistoryWith c frames t h → (n : ℕ) → u < n

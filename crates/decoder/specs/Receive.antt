@@ -11,7 +11,8 @@ use Rattle.card.specs.Registers.{historyBy}
 use Rattle.card.specs.declared.Card.{Card}
 use Rattle.decoder.specs.Readings.{Yield, yields, refuses, readByteOf, readFrameOf}
 use Rattle.decoder.specs.Answers.{Reply, waiting, frame, refused}
-use Rattle.decoder.specs.Registers.{withSyndromes, decideFrameBy, correctedBy, fedBackBy, onesBy}
+use Rattle.majority.specs.Voting.{decideBy}
+use Rattle.decoder.specs.Registers.{withSyndromes, correctedBy, fedBackBy, onesBy}
 use Rattle.decoder.specs.declared.Session.{Session}
 use Rattle.decoder.specs.declared.Reading.{Reading}
 
@@ -51,7 +52,7 @@ withFrame s f = record { card = s .card; history = historyWith s f; syndromes = 
 
 -- the decided errors of the frame that is decided next
 unfoldable pub errorsOf : Session → ℕ
-errorsOf s = decideFrameBy (s .card .checks) (s .card .counts) (s .syndromes) (kOf (s .card)) (pOf (s .card))
+errorsOf s = decideBy (s .card .counts) (s .card .checks) (s .syndromes) (kOf (s .card)) (pOf (s .card))
 
 -- that frame handed out, and the session with the decided errors fed back
 unfoldable pub handingOf : Session → Reply

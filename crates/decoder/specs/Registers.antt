@@ -2,15 +2,13 @@
 -- in proofs/Step.antt tie it to the rule of document 01 (`Rule`).
 -- Digit a of syndrome register j is the syndrome of parity stream j at u + a, where the frame of time u is decided next.
 -- Assumes nothing.
-use Prim.Native.Nat.{ℕ, _+_, _*_, _/_, _%_, min}
-use mathlib.Core.Bool.{cond}
+use Prim.Native.Nat.{ℕ, _+_, _*_, _/_, _%_}
 use mathlib.Core.List.{List, _++_}
 use lib.ListN.{getD, drop, replicate}
-use lib.Dec.{ltb}
 use lib.Bits.{bitXor}
 use lib.Count.{ones}
 use Rattle.bits.specs.Sums.{sumBelow, xorBelow, upTo}
-use Rattle.bits.specs.Digits.{bit, fromDigits, dot, shiftUp}
+use Rattle.bits.specs.Digits.{bit, fromDigits, shiftUp}
 use Rattle.card.specs.Registers.{generatorMask, parityBy}
 
 -- the syndrome of parity stream j for a frame that the history registers h have already
@@ -20,22 +18,6 @@ syndromeBy g h k f j = (bit f (k + j) + parityBy g h k j) % 2
 -- the syndrome registers with the syndromes of a frame put in at place a
 unfoldable pub withSyndromes : List ℕ → List ℕ → List ℕ → ℕ → ℕ → ℕ → ℕ → List ℕ
 withSyndromes y g h k p f a = upTo p (λ j. bitXor (getD y j 0) (shiftUp (syndromeBy g h k f j) a)) ++ drop p (replicate 8 0)
-
--- check q of stream i: the parity of the syndromes that its masks have
-unfoldable pub checkBy : List ℕ → List ℕ → ℕ → ℕ → ℕ → ℕ
-checkBy checks y p i q = sumBelow p (λ j. dot (getD checks (i * 128 + q * 8 + j) 0) (getD y j 0)) % 2
-
--- how many of the first `count` checks of stream i are 1
-unfoldable pub votesBy : List ℕ → List ℕ → ℕ → ℕ → ℕ → ℕ
-votesBy checks y p i count = sumBelow count (λ q. checkBy checks y p i q)
-
--- the decided error of stream i
-unfoldable pub decideBy : List ℕ → List ℕ → ℕ → ℕ → ℕ → ℕ
-decideBy checks y p i count = cond (ltb count (2 * votesBy checks y p i count)) 1 0
-
--- the decided errors of a frame
-unfoldable pub decideFrameBy : List ℕ → List ℕ → List ℕ → ℕ → ℕ → ℕ
-decideFrameBy checks counts y k p = fromDigits k (λ i. decideBy checks y p i (min (getD counts i 0) 16))
 
 -- the frame handed out: the digits m back, plus the decided errors e
 unfoldable pub correctedBy : List ℕ → ℕ → ℕ → ℕ → ℕ

@@ -141,7 +141,7 @@ fn hand_out(s: Session) -> Received
     let held = s.syndromes;
     let k = bits::at_most(card.k, 4);
     let p = bits::at_most(card.p, 8);
-    let errors = registers::decide_frame(&card.checks, &card.counts, &held, k, p);
+    let errors = majority::decide(&card.counts, &card.checks, &held, k, p);
     let frame = registers::corrected(&history, errors, k, card.m);
     let syndromes = registers::fed_back(&held, &card.generators, errors, k, p);
     Received {

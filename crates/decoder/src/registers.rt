@@ -2,7 +2,7 @@
 // time u is decided next, with the errors decided before u taken out.
 ghost use mathlib.Core.Path.{_≡_};
 ghost use Prim.Native.Nat.{_<_, _≤_};
-ghost use Rattle.decoder.specs.Registers.{syndromeBy, withSyndromes, checkBy, votesBy, decideBy, decideFrameBy, correctedBy, feedbackBy, fedBackBy, onesBy};
+ghost use Rattle.decoder.specs.Registers.{syndromeBy, withSyndromes, correctedBy, feedbackBy, fedBackBy, onesBy};
 
 // The syndrome of parity stream j: its digit in the frame, plus the parity of the information digits in the history registers.
 fn syndrome(generators: &[u32; 32], history: &[u32; 4], k: usize, frame: u32, j: usize) -> u32
@@ -33,68 +33,6 @@ pub(crate) fn with_syndromes(
         j += 1;
     }
     next
-}
-
-// Check q of stream i: the parity of the syndromes that its masks have.
-fn check(checks: &[u32; 512], held: &[u32; 8], p: usize, i: usize, q: usize) -> u32
-    requires { ⌜ (p ≤ 8) × (i < 4) × (q < 16) ⌝ }
-    ensures { λ r. ⌜ r ≡ checkBy (now (checks .entry)) (now (held .entry)) p i q ⌝ }
-{
-    let first = i * 128 + q * 8;
-    let mut sum: u32 = 0;
-    let mut j = 0;
-    while j < p {
-        sum = sum ^ (bits::word(checks, first + j) & bits::word(held, j));
-        j += 1;
-    }
-    u32::count_ones(sum) % 2
-}
-
-// How many of the checks of stream i are 1.
-fn votes(checks: &[u32; 512], held: &[u32; 8], p: usize, i: usize, count: usize) -> u32
-    requires { ⌜ (p ≤ 8) × (i < 4) × (count ≤ 16) ⌝ }
-    ensures { λ r. ⌜ r ≡ votesBy (now (checks .entry)) (now (held .entry)) p i count ⌝ }
-{
-    let mut sum: u32 = 0;
-    let mut q = 0;
-    while q < count {
-        sum = sum + check(checks, held, p, i, q);
-        q += 1;
-    }
-    sum
-}
-
-// The decided error of stream i: 1 exactly if twice the votes are more than its checks. A tie gives 0.
-fn decide(checks: &[u32; 512], held: &[u32; 8], p: usize, i: usize, count: usize) -> u32
-    requires { ⌜ (p ≤ 8) × (i < 4) × (count ≤ 16) ⌝ }
-    ensures { λ r. ⌜ r ≡ decideBy (now (checks .entry)) (now (held .entry)) p i count ⌝ }
-{
-    if (count as u32) < 2 * votes(checks, held, p, i, count) {
-        1
-    } else {
-        0
-    }
-}
-
-// The decided errors of all streams of a frame, before any is fed back: bit i for stream i.
-pub(crate) fn decide_frame<'a>(
-    checks: &'a [u32; 512],
-    counts: &'a [usize; 4],
-    held: &[u32; 8],
-    k: usize,
-    p: usize,
-) -> u32
-    requires { ⌜ (k ≤ 4) × (p ≤ 8) ⌝ }
-    ensures { λ r. ⌜ r ≡ decideFrameBy (now (checks .entry)) (now (counts .entry)) (now (held .entry)) k p ⌝ }
-{
-    let mut errors: u32 = 0;
-    let mut i = 0;
-    while i < k {
-        let count = bits::at_most(counts[i], 16);
-        errors = errors + bits::shift_up(decide(checks, held, p, i, count), i);
-        i += 1;
-    }
-    errors
 }
 
 // The frame of the digits m back in the history registers, each plus its decided error.

@@ -4,3 +4,5 @@ pub mod Feedback
 pub mod Majority
 pub mod Linear
 pub mod Theorem
+-- the vote on registers
+pub mod Voting

@@ -9,8 +9,8 @@ at-most-requires c κs = search needs
 at-most-requires-2 : tie.Need-at-most-requires-2
 at-most-requires-2 c κs = search needs
 
-decide-frame-requires : tie.Need-decide-frame-requires
-decide-frame-requires c κs = search needs
+decide-requires : tie.Need-decide-requires
+decide-requires c κs = search needs
 
 corrected-requires : tie.Need-corrected-requires
 corrected-requires c κs = search needs
@@ -22,7 +22,7 @@ returns : tie.Need-returns
 unfolding handingOf errorsOf
 returns c =
     let d = c .before .before .before .before .before .before in
-    cc (c .fed-back .ensures, c .before .before .before .before .corrected .ensures, d .decide-frame .ensures, d .before .before .before .before .before .at-most2 .ensures, d .before .before .before .before .before .before .at-most .ensures)
+    cc (c .fed-back .ensures, c .before .before .before .before .corrected .ensures, d .decide .ensures, d .before .before .before .before .before .at-most2 .ensures, d .before .before .before .before .before .before .at-most .ensures)
 
 pub hand-out-spec : {M : Type 1} → statement M
 hand-out-spec =
@@ -30,7 +30,7 @@ hand-out-spec =
     (tie.spec
     at-most-requires
     at-most-requires-2
-    decide-frame-requires
+    decide-requires
     corrected-requires
     fed-back-requires
     returns)

@@ -39,8 +39,7 @@ correct-requires : tie.Need-correct-requires Inv-loop μ-loop
 correct-requires c κs =
     let T = c .before .take-in .ensures in
     let l = c .before .before .before .before .before .before .loop in
-    let h = c .before .before .before .before .before .before .before .before .before .pre in
-    ((omega arith, omega arith, h .0 .J-most, syndromes-length T (omega arith) (l .inv .2)), none-written T)
+    ((omega arith, syndromes-length T (omega arith) (l .inv .2)), none-written T)
 
 sub-u : tie.Need-sub-u Inv-loop μ-loop
 sub-u c = omega arith

@@ -58,7 +58,7 @@ receive-frames-requires c κs =
     let G = c .before .before .before .before .before .before .before .before .before .before .before .before .pre in
     let n = c .before .before .before .before .before .before .before .before .after-first .ensures in
     let o = c .before .before .before .before .before .before .before .if2 .left in
-    (record { k-most = G .k-most; n-most = G .n-most; m-most = G .m-most; J-most = G .J-most }, omega arith)
+    ((G .k-most, G .n-most, G .m-most), omega arith)
 
 frames-requires : tie.Need-frames-requires
 frames-requires c κs = search needs

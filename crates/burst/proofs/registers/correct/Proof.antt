@@ -1,18 +1,16 @@
 use Prim.Native.Nat.{_<_}
 use mathlib.Core.Path.{refl, sym}
 use mathlib.Core.Logic.{inl, inr}
-use native.Mathlib.Nat.{lt-of-lt-of-le}
 use native.Mathlib.Omega.{arith}
-use lib.Pow.{pow-mono}
 use borrow.Author.Needs.{needs}
-use Rattle.burst.proofs.Voting.{decide-lt, decide-none}
+use Rattle.majority.proofs.Voting.{decide-lt, decide-none}
 use Rattle.burst.proofs.registers.correct.Statement.{statement}
 use Rattle.burst.proofs.registers.correct.Tie as tie
 
 returns : tie.Need-returns
 returns c =
     record {
-      errors-are = sym (decide-none _ _ _ _ (c .before .pre .1 (c .if1 .taken)) (c .before .args .k));
+      errors-are = sym (decide-none _ _ _ _ _ (c .before .pre .1 (c .if1 .taken)));
       after-is = inl (refl, refl);
     }
 
@@ -22,8 +20,7 @@ decide-requires c κs = search needs
 take-out-requires : tie.Need-take-out-requires
 take-out-requires c κs =
     let d = c .before .before .decide in
-    let a = c .before .before .before .before .before .args in
-    let l : d .result < 16 = rw (d .ensures) (lt-of-lt-of-le (decide-lt _ _ _ _ (a .k)) (pow-mono {i = a .k} {j = 4} (omega arith))) in
+    let l : d .result < 16 = rw (d .ensures) (decide-lt _ _ _ _ _) in
     omega arith
 
 returns-2 : tie.Need-returns-2

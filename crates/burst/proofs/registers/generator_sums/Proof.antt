@@ -20,14 +20,14 @@ loop-holds : tie.Need-loop-holds Inv-loop μ-loop
 unfolding upTo
 loop-holds c = (omega arith, refl, refl)
 
-size-requires : tie.Need-size-requires Inv-loop μ-loop
-size-requires c κs = tt
+index-requires : tie.Need-index-requires Inv-loop μ-loop
+index-requires c κs = tt
 
 generator-sum-requires : tie.Need-generator-sum-requires Inv-loop μ-loop
 generator-sum-requires c κs = omega arith
 
-size-requires-2 : tie.Need-size-requires-2 Inv-loop μ-loop
-size-requires-2 c κs = tt
+index-requires-2 : tie.Need-index-requires-2 Inv-loop μ-loop
+index-requires-2 c κs = tt
 
 mul-sums : tie.Need-mul-sums Inv-loop μ-loop
 mul-sums c = omega arith
@@ -47,8 +47,8 @@ loop-again c =
     let g = c .before .before .before .before .before .args .generators .now in
     let f : ℕ → ℕ = λ x. generatorSum g (x / 8) (x % 8) in
     let v = c .before .generator-sum .result in
-    let e : v ≡ f (l .at) = c .before .generator-sum .ensures ∙ ap (λ (j : ℕ). generatorSum g (l .at / 8) j) (c .before .before .size .ensures) in
-    rw (c .size2 .ensures) (
+    let e : v ≡ f (l .at) = c .before .generator-sum .ensures ∙ ap (λ (j : ℕ). generatorSum g (l .at / 8) j) (c .before .before .index .ensures) in
+    rw (c .index2 .ensures) (
       omega arith,
       length-set (l .sums) (l .at) v ∙ l .inv .1,
       fill-step (l .at) f (l .sums) (omega arith) (l .inv .2) e,
@@ -67,9 +67,9 @@ generator-sums-spec =
     Inv-loop
     μ-loop
     loop-holds
-    size-requires
+    index-requires
     generator-sum-requires
-    size-requires-2
+    index-requires-2
     mul-sums
     array-write-sums
     add-at

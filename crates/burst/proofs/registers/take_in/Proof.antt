@@ -23,8 +23,8 @@ abbrev μ-loop : tie.MeasureT-loop
 information-requires : tie.Need-information-requires Inv-loop μ-loop
 information-requires c κs = search needs
 
-size-requires : tie.Need-size-requires Inv-loop μ-loop
-size-requires c κs = search needs
+index-requires : tie.Need-index-requires Inv-loop μ-loop
+index-requires c κs = search needs
 
 mul-at : tie.Need-mul-at Inv-loop μ-loop
 mul-at c = search needs
@@ -97,7 +97,7 @@ loop-again c =
     let i = c .before .before .before .before .before .before .before .before in
     let a = i .before .args in
     let f = a .frame in
-    let at : s .size .result ≡ f % 2 ^ a .k = s .size .ensures ∙ i .information .ensures .0 in
+    let at : s .index .result ≡ f % 2 ^ a .k = s .index .ensures ∙ i .information .ensures .0 in
     let p = parity-is (a .sums .now) (a .coming .now) (a .k) f (l .j) (l .inv .1) at in
     let y =
     c .put-in .ensures
@@ -125,7 +125,7 @@ take-in-spec =
     Inv-loop
     μ-loop
     information-requires
-    size-requires
+    index-requires
     mul-at
     wide-requires
     cast-parities

@@ -18,8 +18,8 @@ Inv-loop syndromes₀ sums p errors at j₀ syndromes j = (j ≤ p) × (syndrome
 abbrev μ-loop : tie.MeasureT-loop
 μ-loop syndromes₀ sums p errors at j₀ syndromes j = p - j
 
-size-requires : tie.Need-size-requires Inv-loop μ-loop
-size-requires c κs = search needs
+index-requires : tie.Need-index-requires Inv-loop μ-loop
+index-requires c κs = search needs
 
 mul-at : tie.Need-mul-at Inv-loop μ-loop
 mul-at c = search needs
@@ -64,7 +64,7 @@ loop-again c =
       omega arith,
       part-step f (a .syndromes .now) (l .j) (l .syndromes) _ (omega arith) (l .inv .1)
           (ap₂ (λ x e. bitXor x (getD (a .sums .now) (e * 8 + l .j) 0)) (ap (λ y. getD y (l .j) 0) (l .inv .1) ∙ part-rest f (a .syndromes .now) (l .j) (l .j) (le-refl (l .j)))
-          (c .before .before .before .before .size .ensures)),
+          (c .before .before .before .before .index .ensures)),
     )
 
 returns : tie.Need-returns Inv-loop μ-loop
@@ -76,7 +76,7 @@ take-out-spec =
     (tie.spec
     Inv-loop
     μ-loop
-    size-requires
+    index-requires
     mul-at
     loop-holds
     mul-syndromes

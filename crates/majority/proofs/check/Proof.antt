@@ -9,10 +9,10 @@ use lib.Count.{ones}
 use borrow.Author.Needs.{needs}
 use Rattle.bits.specs.Sums.{sumBelow}
 use Rattle.bits.specs.Digits.{dot}
-use Rattle.burst.specs.Registers.{checkBy}
-use Rattle.burst.proofs.Voting.{ones-of-common, parity-more}
-use Rattle.burst.proofs.registers.check.Statement.{statement}
-use Rattle.burst.proofs.registers.check.Tie as tie
+use Rattle.majority.specs.Voting.{checkBy}
+use Rattle.majority.proofs.Voting.{ones-of-common, parity-more}
+use Rattle.majority.proofs.check.Statement.{statement}
+use Rattle.majority.proofs.check.Tie as tie
 
 abbrev Inv-loop : tie.InvT-loop
 Inv-loop checks at syndromes p sum₀ j₀ sum j =
