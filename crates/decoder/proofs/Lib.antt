@@ -1,6 +1,7 @@
 pub mod Step
 pub mod Bounds
 pub mod Yields
+pub mod Composed
 pub mod Outcomes
 pub mod Answers
 pub mod Follow

@@ -1,5 +1,5 @@
 use borrow.Author.Needs.{needs}
-use Rattle.decoder.specs.Receive.{errorsOf, handingOf}
+use Rattle.decoder.proofs.Composed.{handing-is}
 use Rattle.decoder.proofs.hand_out.Statement.{statement}
 use Rattle.decoder.proofs.hand_out.Tie as tie
 
@@ -19,10 +19,10 @@ fed-back-requires : tie.Need-fed-back-requires
 fed-back-requires c κs = search needs
 
 returns : tie.Need-returns
-unfolding handingOf errorsOf
 returns c =
     let d = c .before .before .before .before .before .before in
-    cc (c .fed-back .ensures, c .before .before .before .before .corrected .ensures, d .decide .ensures, d .before .before .before .before .before .at-most2 .ensures, d .before .before .before .before .before .before .at-most .ensures)
+    handing-is _ (d .before .before .before .before .before .before .at-most .ensures) (d .before .before .before .before .before .at-most2 .ensures) (d .decide .ensures)
+    (c .before .before .before .before .corrected .ensures) (c .fed-back .ensures)
 
 pub hand-out-spec : {M : Type 1} → statement M
 hand-out-spec =

@@ -1,5 +1,5 @@
 use borrow.Author.Needs.{needs}
-use Rattle.decoder.specs.Receive.{receiveByteOf}
+use Rattle.decoder.proofs.Composed.{byte-is}
 use Rattle.decoder.proofs.receive_byte.Statement.{statement}
 use Rattle.decoder.proofs.receive_byte.Tie as tie
 
@@ -13,8 +13,7 @@ receive-requires : tie.Need-receive-requires
 receive-requires c κs = search needs
 
 returns : tie.Need-returns
-unfolding receiveByteOf
-returns c = cc (c .receive .ensures, c .before .read-byte .ensures, c .before .before .stream-count .ensures)
+returns c = byte-is _ _ (c .before .before .stream-count .ensures) (c .receive .ensures) _ (c .before .read-byte .ensures)
 
 pub receive-byte-spec : {M : Type 1} → statement M
 receive-byte-spec =

@@ -1,5 +1,5 @@
 use borrow.Author.Needs.{needs}
-use Rattle.decoder.specs.Receive.{receiveReadingsOf}
+use Rattle.decoder.proofs.Composed.{readings-are}
 use Rattle.decoder.proofs.receive_readings.Statement.{statement}
 use Rattle.decoder.proofs.receive_readings.Tie as tie
 
@@ -13,8 +13,7 @@ receive-requires : tie.Need-receive-requires
 receive-requires c κs = search needs
 
 returns : tie.Need-returns
-unfolding receiveReadingsOf
-returns c = cc (c .receive .ensures, c .before .read-frame .ensures, c .before .before .stream-count .ensures)
+returns c = readings-are _ _ (c .before .before .stream-count .ensures) (c .receive .ensures) _ (c .before .read-frame .ensures)
 
 pub receive-readings-spec : {M : Type 1} → statement M
 receive-readings-spec =

@@ -1,5 +1,5 @@
 use borrow.Author.Needs.{needs}
-use Rattle.decoder.specs.Receive.{historyWith, syndromesWith, withFrame}
+use Rattle.decoder.proofs.Composed.{with-frame-is}
 use Rattle.decoder.proofs.with_frame.Statement.{statement}
 use Rattle.decoder.proofs.with_frame.Tie as tie
 
@@ -25,10 +25,10 @@ add-received : tie.Need-add-received
 add-received c = search needs
 
 returns : tie.Need-returns
-unfolding withFrame syndromesWith historyWith
 returns c =
     let h = c .before .before .before .before .before .before in
-    cc (c .before .with-syndromes .ensures, h .history .ensures, h .before .before .at-most3 .ensures, h .before .before .before .before .at-most2 .ensures, h .before .before .before .before .before .at-most .ensures)
+    with-frame-is _ (h .before .before .before .before .before .at-most .ensures) (h .before .before .before .before .at-most2 .ensures) _ (h .before .before .at-most3 .ensures)
+    (h .history .ensures) (c .before .with-syndromes .ensures)
 
 pub with-frame-spec : {M : Type 1} → statement M
 with-frame-spec =

@@ -1,0 +1,38 @@
+-- What the parts of a call come to together. Each law is stated over the parts' results, so that the functions' proofs stay small.
+use Prim.Native.Nat.{ℕ, _+_, min}
+use mathlib.Core.Path.{_≡_, ap, _∙_}
+use mathlib.Core.List.{List}
+use Rattle.card.specs.Registers.{historyBy}
+use Rattle.majority.specs.Voting.{decideBy}
+use Rattle.decoder.specs.Registers.{withSyndromes, correctedBy, fedBackBy, onesBy}
+use Rattle.decoder.specs.Readings.{Yield, readByteOf, readFrameOf}
+use Rattle.decoder.specs.Answers.{Reply, frame}
+use Rattle.decoder.specs.Receive.{streamsOf, historyWith, syndromesWith, withFrame, errorsOf, handingOf, receiveOf, receiveByteOf, receiveReadingsOf, linkFigureOf}
+use Rattle.decoder.specs.declared.Session.{Session}
+use Rattle.decoder.specs.declared.Reading.{Reading}
+
+module _ (s : Session) {k p : ℕ} (ek : k ≡ min (s .card .k) 4) (ep : p ≡ min (s .card .p) 8) where
+  pub with-frame-is : (f : ℕ) {place : ℕ} {history syndromes : List ℕ} → place ≡ min (s .received) (s .card .m) → history ≡ historyBy (s .history) k f
+      → syndromes ≡ withSyndromes (s .syndromes) (s .card .generators) history k p f place
+      → record { card = s .card; history = history; syndromes = syndromes; received = s .received + 1 } ≡ withFrame s f
+  unfolding withFrame syndromesWith historyWith
+  with-frame-is f el eh es = cc (ek, ep, el, eh, es)
+
+  pub handing-is : {errors f : ℕ} {syndromes : List ℕ} → errors ≡ decideBy (s .card .counts) (s .card .checks) (s .syndromes) k p
+      → f ≡ correctedBy (s .history) errors k (s .card .m) → syndromes ≡ fedBackBy (s .syndromes) (s .card .generators) errors k p
+      → record { answer = frame f; session = record { card = s .card; history = s .history; syndromes = syndromes; received = s .received } } ≡ handingOf s
+  unfolding handingOf errorsOf
+  handing-is ee ef es = cc (ek, ep, ee, ef, es)
+
+pub figure-is : (s : Session) {p r : ℕ} → p ≡ min (s .card .p) 8 → r ≡ onesBy (s .syndromes) p → r ≡ linkFigureOf s
+unfolding linkFigureOf
+figure-is s ep er = er ∙ ap (λ p. onesBy (s .syndromes) p) ep
+
+module _ (s : Session) (number : ℕ) {n : ℕ} (en : n ≡ streamsOf (s .card .k) (s .card .p)) {y : Yield} {r : Reply} (er : r ≡ receiveOf s number y) where
+  pub byte-is : (f : ℕ) → y ≡ readByteOf f n → r ≡ receiveByteOf s number f
+  unfolding receiveByteOf
+  byte-is f ey = er ∙ ap (λ y. receiveOf s number y) (ey ∙ ap (λ n. readByteOf f n) en)
+
+  pub readings-are : (readings : List Reading) → y ≡ readFrameOf readings n → r ≡ receiveReadingsOf s number readings
+  unfolding receiveReadingsOf
+  readings-are readings ey = er ∙ ap (λ y. receiveOf s number y) (ey ∙ ap (λ n. readFrameOf readings n) en)
