@@ -1,5 +1,5 @@
 -- What the loops of `read_checks` keep, and what they leave. r is the whole answer, c the card before its checks.
-use Prim.Native.Nat.{ℕ, _+_, _^_, _≤_, _<_}
+use Prim.Native.Nat.{ℕ, _+_, _*_, _^_, _≤_, _<_}
 use mathlib.Core.Path.{_≡_, sym, ap, _∙_}
 use mathlib.Core.List.{List, [], _∷_, _++_}
 use mathlib.Core.Logic.{⊎-elim}
@@ -48,6 +48,9 @@ pub record Seen (m : ℕ) (masks : List ℕ) (j : ℕ) (seen : List ℕ) : Type 
 pub record AtMasks (bs : List ℕ) (c : Card) (r : PartOutcome) (i count : ℕ) (counts : List ℕ) (q place : ℕ) (touched : List ℕ) (verdict : Verdict) (checks masks : List ℕ) (rest at j : ℕ) : Type 0 where
   pub mask-most : j ≤ c .p
   pub count-most : count ≤ 16
+  pub stream-lt : i < 4
+  pub check-lt : q < 16
+  pub streams-most : c .p ≤ 7
   pub inside : at ≤ length bs
   pub long-counts : length counts ≡ 4
   pub long-checks : length checks ≡ 512
@@ -58,6 +61,38 @@ pub record AtMasks (bs : List ℕ) (c : Card) (r : PartOutcome) (i count : ℕ) 
   pub seen : List ℕ
   pub seen-are : Seen (c .m) masks j seen
   pub same : restMasks bs c i count q place earlier counts seen j checks rest at ≡ r
+
+-- where mask j, not yet read, goes in its tables
+pub record Place (i q j p : ℕ) : Type 0 where
+  pub next-most : j + 1 ≤ p
+  pub next-fits : j + 1 < 2 ^ 64
+  pub mask-lt : j < 8
+  pub mask-fits : j * 4 < 2 ^ 64
+  pub stream-fits : i * 128 < 2 ^ 64
+  pub check-fits : q * 8 < 2 ^ 64
+  pub row-fits : i * 128 + q * 8 < 2 ^ 64
+  pub slot-lt : i * 128 + q * 8 + j < 512
+  pub slot-fits : i * 128 + q * 8 + j < 2 ^ 64
+  pub bytes-fit : (i * 128 + q * 8 + j) * 4 < 2 ^ 64
+
+place : {i q j p : ℕ} → i < 4 → q < 16 → j < p → p ≤ 7 → Place i q j p
+place hi hq hj hp =
+    record {
+      next-most = omega arith;
+      next-fits = omega arith;
+      mask-lt = omega arith;
+      mask-fits = omega arith;
+      stream-fits = omega arith;
+      check-fits = omega arith;
+      row-fits = omega arith;
+      slot-lt = omega arith;
+      slot-fits = omega arith;
+      bytes-fit = omega arith;
+    }
+
+pub place-of : {bs : List ℕ} {c : Card} {r : PartOutcome} {i count : ℕ} {counts : List ℕ} {q at₀ : ℕ} {touched : List ℕ} {verdict : Verdict} {checks masks : List ℕ} {rest at j : ℕ}
+    → AtMasks bs c r i count counts q at₀ touched verdict checks masks rest at j → j < c .p → Place i q j (c .p)
+place-of v l = place (v .stream-lt) (v .check-lt) l (v .streams-most)
 
 -- one mask more
 pub seen-more : {m : ℕ} {masks : List ℕ} {j : ℕ} {seen : List ℕ} {v : ℕ} → j < length masks → v < 2 ^ (m + 1) → Seen m masks j seen

@@ -18,7 +18,7 @@ use Rattle.card.proofs.Numbers.{number-least}
 use Rattle.card.proofs.HeadStages.{top-map, map-limit}
 use Rattle.card.proofs.Judging.{union-none, judged-same, judged-union}
 use Rattle.card.proofs.RestChecks.{streams-start, streams-end, streams-fault, streams-turn, checks-end, checks-fault, checks-turn, check-fault, check-turn, check-stands, check-fails}
-use Rattle.card.proofs.CheckLoops.{AtStreams, AtChecks, AtMasks, seen-more, leftTables, tables-ended, tables-broken, tables-failed}
+use Rattle.card.proofs.CheckLoops.{AtStreams, AtChecks, AtMasks, place-of, seen-more, leftTables, tables-ended, tables-broken, tables-failed}
 use borrow.Author.Needs.{needs}
 use Rattle.card.proofs.checks.read_checks.Statement.{statement}
 use Rattle.card.proofs.checks.read_checks.Tie as tie
@@ -134,6 +134,9 @@ loop2-holds c =
     record {
       mask-most = omega arith;
       count-most = v .count-most;
+      stream-lt = omega arith;
+      check-lt = omega arith;
+      streams-most = omega arith;
       inside = (let h = byte-is _ _ _ _ _ _ (has-value (c .before .before .before .byte-field2 .ensures) (c .before .map-read .given .1)) .inside in omega arith);
       long-counts = v .long-counts;
       long-checks = v .long-checks;
@@ -162,28 +165,28 @@ verdict-of-requires-3 :
 verdict-of-requires-3 c κs = search needs
 
 mul-masks : tie.Need-mul-masks Inv-loop2 μ-loop2 Inv-loop μ-loop Inv-card μ-card
-mul-masks c = omega arith
+mul-masks c = record { fits = place-of (c .before .before .before .before .before .loop2 .inv) (c .before .before .before .before .loop2-test .taken) .mask-fits }
 
 array-write-masks : tie.Need-array-write-masks Inv-loop2 μ-loop2 Inv-loop μ-loop Inv-card μ-card
-array-write-masks c = omega arith
+array-write-masks c = place-of (c .before .before .before .before .before .loop2 .inv) (c .before .before .before .before .loop2-test .taken) .mask-lt
 
 mul-checks : tie.Need-mul-checks Inv-loop2 μ-loop2 Inv-loop μ-loop Inv-card μ-card
-mul-checks c = omega arith
+mul-checks c = record { fits = place-of (c .before .before .before .before .before .loop2 .inv) (c .before .before .before .before .loop2-test .taken) .stream-fits }
 
 mul-checks-2 : tie.Need-mul-checks-2 Inv-loop2 μ-loop2 Inv-loop μ-loop Inv-card μ-card
-mul-checks-2 c = omega arith
+mul-checks-2 c = record { fits = place-of (c .before .before .before .before .before .loop2 .inv) (c .before .before .before .before .loop2-test .taken) .check-fits }
 
 add-checks : tie.Need-add-checks Inv-loop2 μ-loop2 Inv-loop μ-loop Inv-card μ-card
-add-checks c = omega arith
+add-checks c = record { fits = place-of (c .before .before .before .before .before .loop2 .inv) (c .before .before .before .before .loop2-test .taken) .row-fits }
 
 add-checks-2 : tie.Need-add-checks-2 Inv-loop2 μ-loop2 Inv-loop μ-loop Inv-card μ-card
-add-checks-2 c = omega arith
+add-checks-2 c = record { fits = place-of (c .before .before .before .before .before .loop2 .inv) (c .before .before .before .before .loop2-test .taken) .slot-fits }
 
 mul-checks-3 : tie.Need-mul-checks-3 Inv-loop2 μ-loop2 Inv-loop μ-loop Inv-card μ-card
-mul-checks-3 c = omega arith
+mul-checks-3 c = record { fits = place-of (c .before .before .before .before .before .loop2 .inv) (c .before .before .before .before .loop2-test .taken) .bytes-fit }
 
 array-write-checks : tie.Need-array-write-checks Inv-loop2 μ-loop2 Inv-loop μ-loop Inv-card μ-card
-array-write-checks c = omega arith
+array-write-checks c = place-of (c .before .before .before .before .before .loop2 .inv) (c .before .before .before .before .loop2-test .taken) .slot-lt
 
 cast-at : tie.Need-cast-at Inv-loop2 μ-loop2 Inv-loop μ-loop Inv-card μ-card
 cast-at c = omega arith
@@ -195,7 +198,7 @@ add-at-3 : tie.Need-add-at-3 Inv-loop2 μ-loop2 Inv-loop μ-loop Inv-card μ-car
 add-at-3 c = let h = standing-inside _ _ _ _ _ (c .before .before .before .before .before .loop2 .inv .inside) (omega arith) (has-value (c .before .before .before .standing-mask .ensures) (c .before .mask-read .given .1)) in omega arith
 
 add-j : tie.Need-add-j Inv-loop2 μ-loop2 Inv-loop μ-loop Inv-card μ-card
-add-j c = omega arith
+add-j c = record { fits = place-of (c .before .before .before .before .before .loop2 .inv) (c .before .before .before .before .loop2-test .taken) .next-fits }
 
 loop2-less : tie.Need-loop2-less Inv-loop2 μ-loop2 Inv-loop μ-loop Inv-card μ-card
 loop2-less c = omega arith
@@ -204,8 +207,11 @@ loop2-again : tie.Need-loop2-again Inv-loop2 μ-loop2 Inv-loop μ-loop Inv-card 
 loop2-again c =
     let v = c .before .before .before .before .before .loop2 .inv in
     record {
-      mask-most = omega arith;
+      mask-most = place-of v (c .before .before .before .before .loop2-test .taken) .next-most;
       count-most = v .count-most;
+      stream-lt = v .stream-lt;
+      check-lt = v .check-lt;
+      streams-most = v .streams-most;
       inside = standing-inside _ _ _ _ _ (v .inside) (omega arith) (has-value (c .before .before .before .standing-mask .ensures) (c .before .mask-read .given .1));
       long-counts = v .long-counts;
       long-checks = simp length-set (v .long-checks);
