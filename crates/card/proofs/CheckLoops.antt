@@ -3,22 +3,34 @@ use Prim.Native.Nat.{ℕ, _+_, _*_, _^_, _≤_, _<_}
 use mathlib.Core.Path.{_≡_, sym, ap, _∙_}
 use mathlib.Core.List.{List, [], _∷_, _++_}
 use mathlib.Core.Logic.{⊎-elim}
+use native.Mathlib.Nat.{le-antisymm}
 use native.Mathlib.Omega.{arith}
 use lib.ListN.{length, getD, set, length-append}
 use lib.Seq.{getD-set-same, getD-set-other}
 use Rattle.bits.proofs.Cases.{same-or-not}
 use Rattle.bits.proofs.Lists.{snoc-last, snoc-other}
+use Rattle.orthogonal.specs.ErrorMasks.{errorsBy, judgeBy}
+use Rattle.orthogonal.specs.declared.Judged.{Judged}
 use Rattle.card.specs.Refusals.{numberOf}
-use Rattle.card.specs.Parts.{PartOutcome, refusedPart}
+use Rattle.card.specs.Reading.{judge}
+use Rattle.card.specs.Parts.{judgementNumber, PartOutcome, refusedPart}
 use Rattle.card.specs.declared.Card.{Card}
 use Rattle.card.specs.declared.Refusal.{Refusal}
 use Rattle.card.specs.declared.Verdict.{Verdict}
 use Rattle.card.specs.declared.Verdict.the-variants.{Accepted, Refused}
-use Rattle.card.proofs.Judging.{Union}
+use Rattle.card.proofs.Judging.{Union, judged-same, judged-union}
 use Rattle.card.proofs.RestChecks.{tablesPart, restStreams, restChecks, restMasks}
+
+-- what the reader of the head and the generators leaves
+pub record Limits (c : Card) : Type 0 where
+  pub k-most : c .k ≤ 4
+  pub n-most : c .k + c .p ≤ 8
+  pub p-most : c .p ≤ 7
+  pub m-most : c .m < 32
 
 -- before stream i
 pub record AtStreams (bs : List ℕ) (c : Card) (r : PartOutcome) (verdict : Verdict) (counts checks : List ℕ) (at i : ℕ) : Type 0 where
+  pub limits : Limits c
   pub stream-most : i ≤ c .k
   pub inside : at ≤ length bs
   pub long-counts : length counts ≡ 4
@@ -28,6 +40,8 @@ pub record AtStreams (bs : List ℕ) (c : Card) (r : PartOutcome) (verdict : Ver
 
 -- before check q of stream i, whose earlier checks touch the errors `touched`
 pub record AtChecks (bs : List ℕ) (c : Card) (r : PartOutcome) (i count : ℕ) (counts : List ℕ) (verdict : Verdict) (checks touched : List ℕ) (at q : ℕ) : Type 0 where
+  pub limits : Limits c
+  pub stream-lt : i < c .k
   pub check-most : q ≤ count
   pub count-most : count ≤ 16
   pub inside : at ≤ length bs
@@ -46,11 +60,11 @@ pub record Seen (m : ℕ) (masks : List ℕ) (j : ℕ) (seen : List ℕ) : Type 
 
 -- before mask j of check q, whose map stands at place
 pub record AtMasks (bs : List ℕ) (c : Card) (r : PartOutcome) (i count : ℕ) (counts : List ℕ) (q place : ℕ) (touched : List ℕ) (verdict : Verdict) (checks masks : List ℕ) (rest at j : ℕ) : Type 0 where
+  pub limits : Limits c
+  pub stream-lt : i < c .k
+  pub check-lt : q < count
   pub mask-most : j ≤ c .p
   pub count-most : count ≤ 16
-  pub stream-lt : i < 4
-  pub check-lt : q < 16
-  pub streams-most : c .p ≤ 7
   pub inside : at ≤ length bs
   pub long-counts : length counts ≡ 4
   pub long-checks : length checks ≡ 512
@@ -62,9 +76,11 @@ pub record AtMasks (bs : List ℕ) (c : Card) (r : PartOutcome) (i count : ℕ) 
   pub seen-are : Seen (c .m) masks j seen
   pub same : restMasks bs c i count q place earlier counts seen j checks rest at ≡ r
 
+pub next-most : {n most : ℕ} → n < most → n + 1 ≤ most
+next-most h = omega arith
+
 -- where mask j, not yet read, goes in its tables
-pub record Place (i q j p : ℕ) : Type 0 where
-  pub next-most : j + 1 ≤ p
+pub record Place (i q j : ℕ) : Type 0 where
   pub next-fits : j + 1 < 2 ^ 64
   pub mask-lt : j < 8
   pub mask-fits : j * 4 < 2 ^ 64
@@ -75,10 +91,9 @@ pub record Place (i q j p : ℕ) : Type 0 where
   pub slot-fits : i * 128 + q * 8 + j < 2 ^ 64
   pub bytes-fit : (i * 128 + q * 8 + j) * 4 < 2 ^ 64
 
-place : {i q j p : ℕ} → i < 4 → q < 16 → j < p → p ≤ 7 → Place i q j p
-place hi hq hj hp =
+place : {i k q count j p : ℕ} → i < k → k ≤ 4 → q < count → count ≤ 16 → j < p → p ≤ 7 → Place i q j
+place hi hk hq hn hj hp =
     record {
-      next-most = omega arith;
       next-fits = omega arith;
       mask-lt = omega arith;
       mask-fits = omega arith;
@@ -91,8 +106,25 @@ place hi hq hj hp =
     }
 
 pub place-of : {bs : List ℕ} {c : Card} {r : PartOutcome} {i count : ℕ} {counts : List ℕ} {q at₀ : ℕ} {touched : List ℕ} {verdict : Verdict} {checks masks : List ℕ} {rest at j : ℕ}
-    → AtMasks bs c r i count counts q at₀ touched verdict checks masks rest at j → j < c .p → Place i q j (c .p)
-place-of v l = place (v .stream-lt) (v .check-lt) l (v .streams-most)
+    → AtMasks bs c r i count counts q at₀ touched verdict checks masks rest at j → j < c .p → Place i q j
+place-of v l = place (v .stream-lt) (v .limits .k-most) (v .check-lt) (v .count-most) l (v .limits .p-most)
+
+-- a check whose masks are all read is judged as the definition has it
+module _ {bs : List ℕ} {c : Card} {r : PartOutcome} {i count : ℕ} {counts : List ℕ} {q at₀ : ℕ} {touched : List ℕ} {verdict : Verdict} {checks masks : List ℕ} {rest at j : ℕ}
+    (v : AtMasks bs c r i count counts q at₀ touched verdict checks masks rest at j) (whole : c .p ≤ j)
+    {errors : List ℕ} {judged : Judged} (es : errors ≡ errorsBy (c .generators) masks (c .k) (c .p) (c .m)) (ej : judged ≡ judgeBy errors touched i) where
+  all-seen : length (v .seen) ≡ c .p
+  all-seen = v .seen-are .many ∙ le-antisymm (v .mask-most) whole
+
+  pub judged-number : judge c i (v .earlier) (v .seen) ≡ judgementNumber (judged .judgement)
+  judged-number =
+      judged-same c (v .limits .n-most) (v .limits .k-most) (v .limits .m-most) (v .seen) masks all-seen (v .seen-are .within) (v .seen-are .same) i (v .stream-lt) (v .earlier) touched
+      (v .union) es ej
+
+  pub judged-errors : judgementNumber (judged .judgement) ≡ 0 → Union c i (v .seen ∷ v .earlier) (judged .touched)
+  judged-errors =
+      judged-union c (v .limits .n-most) (v .limits .k-most) (v .limits .m-most) (v .seen) masks all-seen (v .seen-are .within) (v .seen-are .same) i (v .stream-lt) (v .earlier) touched
+      (v .union) es ej
 
 -- one mask more
 pub seen-more : {m : ℕ} {masks : List ℕ} {j : ℕ} {seen : List ℕ} {v : ℕ} → j < length masks → v < 2 ^ (m + 1) → Seen m masks j seen

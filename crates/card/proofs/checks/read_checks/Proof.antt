@@ -16,9 +16,9 @@ use Rattle.card.specs.declared.Verdict.{Verdict}
 use Rattle.card.proofs.FieldValues.{has-value, has-fault, byte-is, standing-inside, standing-within}
 use Rattle.card.proofs.Numbers.{number-least}
 use Rattle.card.proofs.HeadStages.{top-map, map-limit}
-use Rattle.card.proofs.Judging.{union-none, judged-same, judged-union}
+use Rattle.card.proofs.Judging.{union-none}
 use Rattle.card.proofs.RestChecks.{streams-start, streams-end, streams-fault, streams-turn, checks-end, checks-fault, checks-turn, check-fault, check-turn, check-stands, check-fails}
-use Rattle.card.proofs.CheckLoops.{AtStreams, AtChecks, AtMasks, place-of, seen-more, leftTables, tables-ended, tables-broken, tables-failed}
+use Rattle.card.proofs.CheckLoops.{AtStreams, AtChecks, AtMasks, next-most, place-of, judged-number, judged-errors, seen-more, leftTables, tables-ended, tables-broken, tables-failed}
 use borrow.Author.Needs.{needs}
 use Rattle.card.proofs.checks.read_checks.Statement.{statement}
 use Rattle.card.proofs.checks.read_checks.Tie as tie
@@ -47,6 +47,7 @@ abbrev μ-card : tie.MeasureT-card
 card-holds : tie.Need-card-holds Inv-loop2 μ-loop2 Inv-loop μ-loop Inv-card μ-card
 card-holds c =
     record {
+      limits = record { k-most = omega arith; n-most = omega arith; p-most = omega arith; m-most = omega arith };
       stream-most = omega arith;
       inside = omega arith;
       long-counts = refl;
@@ -90,6 +91,8 @@ loop-holds c =
     let v = c .before .before .before .before .before .card .inv in
     let b = byte-is _ _ _ _ _ _ (has-value (c .before .before .before .byte-field .ensures) (c .before .count-read .given .1)) in
     record {
+      limits = v .limits;
+      stream-lt = c .before .before .before .before .card-test .taken;
       check-most = omega arith;
       count-most = b .most;
       inside = (let h = b .inside in omega arith);
@@ -132,11 +135,11 @@ loop2-holds : tie.Need-loop2-holds Inv-loop2 μ-loop2 Inv-loop μ-loop Inv-card 
 loop2-holds c =
     let v = c .before .before .before .before .before .loop .inv in
     record {
+      limits = v .limits;
+      stream-lt = v .stream-lt;
+      check-lt = c .before .before .before .before .loop-test .taken;
       mask-most = omega arith;
       count-most = v .count-most;
-      stream-lt = omega arith;
-      check-lt = omega arith;
-      streams-most = omega arith;
       inside = (let h = byte-is _ _ _ _ _ _ (has-value (c .before .before .before .byte-field2 .ensures) (c .before .map-read .given .1)) .inside in omega arith);
       long-counts = v .long-counts;
       long-checks = v .long-checks;
@@ -207,11 +210,11 @@ loop2-again : tie.Need-loop2-again Inv-loop2 μ-loop2 Inv-loop μ-loop Inv-card 
 loop2-again c =
     let v = c .before .before .before .before .before .loop2 .inv in
     record {
-      mask-most = place-of v (c .before .before .before .before .loop2-test .taken) .next-most;
-      count-most = v .count-most;
+      limits = v .limits;
       stream-lt = v .stream-lt;
       check-lt = v .check-lt;
-      streams-most = v .streams-most;
+      mask-most = next-most (c .before .before .before .before .loop2-test .taken);
+      count-most = v .count-most;
       inside = standing-inside _ _ _ _ _ (v .inside) (omega arith) (has-value (c .before .before .before .standing-mask .ensures) (c .before .mask-read .given .1));
       long-counts = v .long-counts;
       long-checks = simp length-set (v .long-checks);
@@ -250,17 +253,22 @@ loop-less c = omega arith
 loop-again : tie.Need-loop-again Inv-loop2 μ-loop2 Inv-loop μ-loop Inv-card μ-card
 loop-again c =
     let v = c .before .before .before .before .before .before .before .before .loop2 .inv in
+    let whole = c .before .before .before .before .before .before .before .loop2-test .left in
+    let es = c .before .before .before .before .errors-by .ensures in
+    let ej = c .before .before .before .judge .ensures in
     let z : judgementNumber (c .before .before .before .judge .result .judgement) ≡ 0 = ap judgementNumber (c .before .enum-told4 .given .1) in
     record {
-      check-most = omega arith;
+      limits = v .limits;
+      stream-lt = v .stream-lt;
+      check-most = next-most (v .check-lt);
       count-most = v .count-most;
       inside = v .inside;
       long-counts = v .long-counts;
       long-checks = v .long-checks;
       unbroken = v .unbroken;
       earlier = v .seen ∷ v .earlier;
-      union = judged-union (c .before .before .before .before .before .before .before .before .before .before .before .before .before .before .before .before .before .before .before .before .before .before .before .args .card) (omega (arith, c .before .before .before .before .before .before .before .before .before .before .before .before .before .before .before .before .before .before .before .before .before .before .before .pre)) (omega (arith, c .before .before .before .before .before .before .before .before .before .before .before .before .before .before .before .before .before .before .before .before .before .before .before .pre)) (omega (arith, c .before .before .before .before .before .before .before .before .before .before .before .before .before .before .before .before .before .before .before .before .before .before .before .pre)) (v .seen) _ (let h = v .seen-are .many in omega arith) (v .seen-are .within) (v .seen-are .same) _ (omega arith) (v .earlier) _ (v .union) (c .before .before .before .before .errors-by .ensures) (c .before .before .before .judge .ensures) z;
-      same = sym (check-stands _ _ _ _ _ _ _ _ _ _ _ _ _ (c .before .before .before .before .before .before .before .loop2-test .left) (judged-same (c .before .before .before .before .before .before .before .before .before .before .before .before .before .before .before .before .before .before .before .before .before .before .before .args .card) (omega (arith, c .before .before .before .before .before .before .before .before .before .before .before .before .before .before .before .before .before .before .before .before .before .before .before .pre)) (omega (arith, c .before .before .before .before .before .before .before .before .before .before .before .before .before .before .before .before .before .before .before .before .before .before .before .pre)) (omega (arith, c .before .before .before .before .before .before .before .before .before .before .before .before .before .before .before .before .before .before .before .before .before .before .before .pre)) (v .seen) _ (let h = v .seen-are .many in omega arith) (v .seen-are .within) (v .seen-are .same) _ (omega arith) (v .earlier) _ (v .union) (c .before .before .before .before .errors-by .ensures) (c .before .before .before .judge .ensures) ∙ z)) ∙ v .same;
+      union = judged-errors v whole es ej z;
+      same = sym (check-stands _ _ _ _ _ _ _ _ _ _ _ _ _ whole (judged-number v whole es ej ∙ z)) ∙ v .same;
     }
 
 add-i : tie.Need-add-i Inv-loop2 μ-loop2 Inv-loop μ-loop Inv-card μ-card
@@ -273,7 +281,8 @@ card-again : tie.Need-card-again Inv-loop2 μ-loop2 Inv-loop μ-loop Inv-card μ
 card-again c =
     let v = c .before .loop .inv in
     record {
-      stream-most = omega arith;
+      limits = v .limits;
+      stream-most = next-most (v .stream-lt);
       inside = v .inside;
       long-counts = v .long-counts;
       long-checks = v .long-checks;
@@ -304,7 +313,7 @@ settled c =
     (sym (check-fault _ _ _ _ _ _ _ _ _ _ _ _ _ (w .12 .taken) (has-fault (w .13 .ensures) (w .15 .given .1))) ∙ w .11 .inv .same))
     (λ w.
     let t = w .11 .inv in
-    let e = judged-same (c .before .before .before .before .args .card) (omega (arith, c .before .before .before .before .pre)) (omega (arith, c .before .before .before .before .pre)) (omega (arith, c .before .before .before .before .pre)) (t .seen) _ (let h = t .seen-are .many in let l = w .12 .left in let l₁ = t .mask-most in omega arith) (t .seen-are .within) (t .seen-are .same) _ (w .0 .taken) (t .earlier) _ (t .union) (w .15 .ensures) (w .16 .ensures)
+    let e = judged-number t (w .12 .left) (w .15 .ensures) (w .16 .ensures)
     ∙ ap judgementNumber (w .18 .given .1) in
     tables-failed _ _ _ _ (w .21) (w .20 .ensures)
     (sym (check-fails _ _ _ _ _ _ _ _ _ _ _ _ _ (w .12 .left) e (λ z. let l = number-least (refusalOf (w .18 .given .0 .0)) in omega arith)) ∙ t .same)))))
