@@ -8,7 +8,7 @@ use lib.ListN.{length, getD, drop, set}
 use Rattle.bits.specs.Sums.{upTo}
 use Rattle.bits.proofs.Lists.{part-step}
 use Rattle.card.specs.Code.{withTail, sentFrame, sent}
-use Rattle.card.specs.Registers.{historyBy, frameBy}
+use Rattle.code.specs.Registers.{historyBy, frameBy}
 use Rattle.card.specs.declared.Card.{Card}
 use Rattle.card.proofs.Registers.{HistoryBefore}
 use Rattle.card.proofs.Sending.{turn-history, turn-frame}

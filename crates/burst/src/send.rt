@@ -42,8 +42,8 @@ fn send_frames(
     let mut at = 0;
     while at < end {
         let info = information(input, at);
-        registers = card::code::history(&registers, k, info);
-        output[at] = card::code::frame(generators, &registers, k, p, info) as u8;
+        registers = code::history(&registers, k, info);
+        output[at] = code::frame(generators, &registers, k, p, info) as u8;
         at += 1;
     }
 }

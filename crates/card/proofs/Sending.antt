@@ -8,7 +8,7 @@ use Rattle.bits.specs.Digits.{bit}
 use Rattle.bits.proofs.Lists.{zeros-after}
 use Rattle.card.specs.Code.{digit, withTail, sentFrame}
 use Rattle.card.specs.Guarantees.{Guarantees}
-use Rattle.card.specs.Registers.{historyBy, frameBy}
+use Rattle.code.specs.Registers.{historyBy, frameBy}
 use Rattle.card.specs.declared.Card.{Card}
 use Rattle.card.proofs.Registers.{HistoryBefore, HistoryWith, history-next, history-later, frame-next}
 

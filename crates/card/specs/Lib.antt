@@ -7,5 +7,4 @@ pub mod Fields
 pub mod Reading
 pub mod Layout
 pub mod Promise
-pub mod Registers
 pub mod Parts

@@ -1,6 +1,5 @@
 // Link cards: the code and the checks that a card names, and reading one from its bytes.
 mod checks;
-pub mod code;
 mod fields;
 mod parts;
 

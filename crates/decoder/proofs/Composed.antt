@@ -2,7 +2,7 @@
 use Prim.Native.Nat.{ℕ, _+_, min}
 use mathlib.Core.Path.{_≡_, ap, _∙_}
 use mathlib.Core.List.{List}
-use Rattle.card.specs.Registers.{historyBy}
+use Rattle.code.specs.Registers.{historyBy}
 use Rattle.majority.specs.Voting.{decideBy}
 use Rattle.decoder.specs.Registers.{withSyndromes, correctedBy, fedBackBy, onesBy}
 use Rattle.decoder.specs.Readings.{Yield, readByteOf, readFrameOf}

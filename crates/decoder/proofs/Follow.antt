@@ -12,7 +12,7 @@ use Rattle.bits.specs.Digits.{bit}
 use Rattle.bits.proofs.Cases.{le-or-lt}
 use Rattle.card.specs.Code.{digit}
 use Rattle.card.specs.Guarantees.{Guarantees}
-use Rattle.card.specs.Registers.{historyBy}
+use Rattle.code.specs.Registers.{historyBy}
 use Rattle.card.specs.declared.Card.{Card}
 use Rattle.card.proofs.Registers.{HistoryBefore, HistoryWith, history-later, history-next}
 use Rattle.majority.specs.Rule.{decideFrame, decided}

@@ -21,9 +21,10 @@ use Rattle.bits.proofs.Digits.{bit-lt, bit-suc, bit-high, bit-xor, bit-masks, p
 use Rattle.bits.proofs.Words.{shift-digit}
 use Rattle.card.specs.Code.{generator, digit}
 use Rattle.card.specs.Guarantees.{Guarantees}
-use Rattle.card.specs.Registers.{generatorMask}
+use Rattle.code.specs.Registers.{generatorMask}
 use Rattle.card.specs.declared.Card.{Card}
-use Rattle.card.proofs.Registers.{HistoryWith, in-table, parity-next}
+use Rattle.code.proofs.Registers.{in-table}
+use Rattle.card.proofs.Registers.{HistoryWith, parity-next}
 use Rattle.majority.specs.Rule.{syndrome, cleared, decideFrame, decided, corrected}
 use Rattle.decoder.specs.Registers.{syndromeBy, withSyndromes, correctedBy, feedbackBy, fedBackBy}
 use Rattle.majority.specs.Voting.{decideBy}

@@ -9,7 +9,7 @@ use lib.Bits.{bitXor}
 use lib.Count.{ones}
 use Rattle.bits.specs.Sums.{sumBelow, xorBelow, upTo}
 use Rattle.bits.specs.Digits.{bit, fromDigits, shiftUp}
-use Rattle.card.specs.Registers.{generatorMask, parityBy}
+use Rattle.code.specs.Registers.{generatorMask, parityBy}
 
 -- the syndrome of parity stream j for a frame that the history registers h have already
 unfoldable pub syndromeBy : List ℕ → List ℕ → ℕ → ℕ → ℕ → ℕ

@@ -113,7 +113,7 @@ fn with_frame(s: Session, frame: u8) -> Session
     let p = bits::at_most(card.p, 8);
     let place = bits::at_most(s.received as usize, card.m);
     let digits = frame as u32;
-    let history = card::code::history(&before, k, digits);
+    let history = code::history(&before, k, digits);
     let syndromes = registers::with_syndromes(
         &held,
         &card.generators,

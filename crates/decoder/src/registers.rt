@@ -9,7 +9,7 @@ fn syndrome(generators: &[u32; 32], history: &[u32; 4], k: usize, frame: u32, j:
     requires { ⌜ (k ≤ 4) × (j < 8) ⌝ }
     ensures { λ r. ⌜ r ≡ syndromeBy (now (generators .entry)) (now (history .entry)) k frame j ⌝ }
 {
-    (bits::digit(frame, k + j) + card::code::parity(generators, history, k, j)) % 2
+    (bits::digit(frame, k + j) + code::parity(generators, history, k, j)) % 2
 }
 
 // The syndrome registers with the syndromes of a frame put in at a place; the history registers have the frame already.
@@ -57,7 +57,7 @@ fn feedback(generators: &[u32; 32], errors: u32, k: usize, j: usize) -> u32
     let mut sum: u32 = 0;
     let mut i = 0;
     while i < k {
-        sum = sum ^ card::code::generator(generators, i, j) * bits::digit(errors, i);
+        sum = sum ^ code::generator(generators, i, j) * bits::digit(errors, i);
         i += 1;
     }
     sum

@@ -7,7 +7,7 @@ use mathlib.Core.List.{List, [], _∷_, _++_}
 use native.Mathlib.Nat.{zero-add}
 use native.Mathlib.Omega.{arith}
 use borrow.Author.Tests.{lt-ltb, ltb-false}
-use Rattle.card.specs.Registers.{frameBy}
+use Rattle.code.specs.Registers.{frameBy}
 use Rattle.encoder.specs.Outcome.{SendOutcome}
 use Rattle.encoder.specs.Sending.{refusedOf, historyNext, encodedOf, tailBegun, noRoom, digitBeyond, tailOut, sendOf}
 use Rattle.encoder.specs.Calls.{Call, information, tail, callOf, givenBy, framesGiven, takes, informationTaken, tailTaken}

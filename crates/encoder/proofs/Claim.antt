@@ -13,7 +13,7 @@ use borrow.Author.Tests.{leb-false}
 use Rattle.bits.proofs.Lists.{dropped-head, dropped-rest, dropped-within}
 use Rattle.card.specs.Code.{withTail, sentFrame, sent}
 use Rattle.card.specs.Guarantees.{Guarantees}
-use Rattle.card.specs.Registers.{historyBy}
+use Rattle.code.specs.Registers.{historyBy}
 use Rattle.card.specs.declared.Card.{Card}
 use Rattle.card.proofs.Registers.{HistoryBefore, history-start}
 use Rattle.card.proofs.Sending.{turn-history, turn-frame}

@@ -3,7 +3,7 @@ use Prim.Native.Nat.{ℕ, _+_}
 use mathlib.Core.Path.{_≡_, ap, ap₂, _∙_}
 use mathlib.Core.Bool.{true, false}
 use mathlib.Core.List.{List}
-use Rattle.card.specs.Registers.{historyBy, frameBy}
+use Rattle.code.specs.Registers.{historyBy, frameBy}
 use Rattle.encoder.specs.Outcome.{frame, SendOutcome}
 use Rattle.encoder.specs.Sending.{refusedOf, historyNext, encodedOf, tailBegun, noRoom, digitBeyond, tailOut, sendOf, sendTailOf}
 use Rattle.encoder.specs.declared.Session.{Session}

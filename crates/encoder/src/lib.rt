@@ -84,8 +84,8 @@ fn encode(s: Session, info: u8, sent: u32, tail: usize) -> Sent
     let card = s.card;
     let generators = card.generators;
     let before = s.history;
-    let history = card::code::history(&before, card.k, info as u32);
-    let frame = card::code::frame(&generators, &history, card.k, card.p, info as u32);
+    let history = code::history(&before, card.k, info as u32);
+    let frame = code::frame(&generators, &history, card.k, card.p, info as u32);
     Sent {
         answer: Answer::Frame(frame as u8),
         session: Session {

@@ -1,5 +1,5 @@
 use borrow.Author.Needs.{needs}
-use Rattle.card.proofs.Registers.{frame-fits}
+use Rattle.code.proofs.Registers.{frame-fits}
 use Rattle.encoder.proofs.Outcomes.{encoded}
 use Rattle.encoder.proofs.encode.Statement.{statement}
 use Rattle.encoder.proofs.encode.Tie as tie

@@ -7,7 +7,8 @@ use lib.ListN.{length, length-set}
 use Rattle.bits.specs.Sums.{upTo}
 use Rattle.card.specs.Code.{withTail}
 use Rattle.card.specs.declared.Card.{Card}
-use Rattle.card.proofs.Registers.{history-start, frame-fits}
+use Rattle.code.proofs.Registers.{frame-fits}
+use Rattle.card.proofs.Registers.{history-start}
 use Rattle.burst.specs.Sending.{Names}
 use Rattle.burst.proofs.Sending.{SentBefore, sent-turn, sent-end}
 use Rattle.burst.proofs.send.send_frames.Statement.{statement}

@@ -4,7 +4,7 @@ use native.Mathlib.Omega.{arith}
 use borrow.Author.Needs.{needs}
 use Rattle.bits.proofs.Digits.{bit-lt}
 use Rattle.decoder.specs.Registers.{syndromeBy}
-use Rattle.decoder.proofs.Bounds.{parity-by-lt}
+use Rattle.code.proofs.Registers.{parity-by-le}
 use Rattle.decoder.proofs.registers.syndrome.Statement.{statement}
 use Rattle.decoder.proofs.registers.syndrome.Tie as tie
 
@@ -20,7 +20,7 @@ parity-requires c κs = search needs
 add-result : tie.Need-add-result
 add-result c =
     let a = c .before .before .args in
-    record { fits = omega (arith, c .before .digit .ensures, c .parity .ensures, bit-lt (a .frame) (a .k + a .j), parity-by-lt (a .generators .now) (a .history .now) (a .k) (a .j)) }
+    record { fits = omega (arith, c .before .digit .ensures, c .parity .ensures, bit-lt (a .frame) (a .k + a .j), parity-by-le (a .generators .now) (a .history .now) (a .k) (a .j)) }
 
 returns : tie.Need-returns
 unfolding syndromeBy

@@ -5,10 +5,10 @@ use native.Mathlib.Omega.{arith}
 use lib.Pow.{pow-pos}
 use Rattle.bits.specs.Digits.{fromDigits, shiftUp}
 use Rattle.bits.proofs.Words.{shift-digit}
-use Rattle.card.specs.Registers.{parityBy, digitBy, frameBy}
-use Rattle.card.proofs.Registers.{frame-start, frame-more, frame-more-fits}
-use Rattle.card.proofs.code.frame.Statement.{statement}
-use Rattle.card.proofs.code.frame.Tie as tie
+use Rattle.code.specs.Registers.{parityBy, digitBy, frameBy}
+use Rattle.code.proofs.Registers.{frame-start, frame-more, frame-more-fits}
+use Rattle.code.proofs.frame.Statement.{statement}
+use Rattle.code.proofs.frame.Tie as tie
 
 abbrev Inv-loop : tie.InvT-loop
 Inv-loop generators registers k p info streams parities digits₀ j₀ digits j =

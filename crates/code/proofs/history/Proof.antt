@@ -7,9 +7,9 @@ use lib.ListN.{getD, drop, replicate}
 use Rattle.bits.specs.Sums.{upTo}
 use Rattle.bits.specs.Digits.{bit}
 use Rattle.bits.proofs.Lists.{part-step, part-end}
-use Rattle.card.specs.Registers.{shiftIn, historyBy}
-use Rattle.card.proofs.code.history.Statement.{statement}
-use Rattle.card.proofs.code.history.Tie as tie
+use Rattle.code.specs.Registers.{shiftIn, historyBy}
+use Rattle.code.proofs.history.Statement.{statement}
+use Rattle.code.proofs.history.Tie as tie
 
 abbrev Inv-loop : tie.InvT-loop
 Inv-loop registers k frame streams next₀ i₀ next i =

@@ -8,9 +8,9 @@ use lib.Count.{ones}
 use Rattle.bits.specs.Sums.{sumBelow}
 use Rattle.bits.specs.Digits.{dot}
 use Rattle.bits.proofs.Words.{masked-lt, masked-step}
-use Rattle.card.specs.Registers.{generatorMask, parityBy}
-use Rattle.card.proofs.code.parity.Statement.{statement}
-use Rattle.card.proofs.code.parity.Tie as tie
+use Rattle.code.specs.Registers.{generatorMask, parityBy}
+use Rattle.code.proofs.parity.Statement.{statement}
+use Rattle.code.proofs.parity.Tie as tie
 
 abbrev Inv-loop : tie.InvT-loop
 Inv-loop generators registers k j streams sum₀ i₀ sum i =

@@ -1,8 +1,8 @@
 use borrow.Author.Tests.{lt-ltb, le-ltb}
-use Rattle.card.specs.Registers.{generatorMask}
+use Rattle.code.specs.Registers.{generatorMask}
 use borrow.Author.Needs.{needs}
-use Rattle.card.proofs.code.generator.Statement.{statement}
-use Rattle.card.proofs.code.generator.Tie as tie
+use Rattle.code.proofs.generator.Statement.{statement}
+use Rattle.code.proofs.generator.Tie as tie
 
 mul-result : tie.Need-mul-result
 mul-result c = search needs

@@ -1,7 +1,7 @@
 // The code by registers: bit a of history register i is information digit i of the frame a before the last one taken.
 ghost use mathlib.Core.Path.{_≡_};
 ghost use Prim.Native.Nat.{_<_};
-ghost use Rattle.card.specs.Registers.{generatorMask, shiftIn, historyBy, parityBy, frameBy};
+ghost use Rattle.code.specs.Registers.{generatorMask, shiftIn, historyBy, parityBy, frameBy};
 
 // The generator of information stream i and parity stream j, zero beyond the table.
 pub fn generator(generators: &[u32; 32], i: usize, j: usize) -> u32

@@ -1,8 +1,8 @@
 use native.Mathlib.Omega.{arith}
-use Rattle.card.specs.Registers.{shiftIn}
+use Rattle.code.specs.Registers.{shiftIn}
 use borrow.Author.Needs.{needs}
-use Rattle.card.proofs.code.shifted_in.Statement.{statement}
-use Rattle.card.proofs.code.shifted_in.Tie as tie
+use Rattle.code.proofs.shifted_in.Statement.{statement}
+use Rattle.code.proofs.shifted_in.Tie as tie
 
 mul-result : tie.Need-mul-result
 mul-result c = search needs
