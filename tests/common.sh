@@ -12,18 +12,30 @@ fi
 warnings="-std=c11 -Wall -Wextra -Wpedantic"
 library=target/staticlib/libburst.a
 
-# Proves and compiles the library, unless nothing under crates/ has changed since it was last built.
-build_library() {
-    if [ ! -f "$library" ] || [ -n "$(find crates crates.txt -newer "$library" -print -quit)" ]; then
-        rt staticlib burst
-    fi
+# Whether a file is not there, or something under crates/ has changed since it was built.
+stale() {
+    [ ! -f "$1" ] || [ -n "$(find crates crates.txt -newer "$1" -print -quit)" ]
 }
 
-# The same for a program.
+# Proves and compiles the library, where it is stale. rt works in a root of its own, over the same crates and what is proved of them:
+# another rt may be at work in this one, and each would read the other's verdicts in target/log.
+build_library() {
+    local root=$built/root
+    stale "$library" || return 0
+    mkdir -p "$root/target" target/rlib target/stamp target/staticlib
+    ln -sfr crates crates.txt "$root"
+    ln -sfr target/rlib target/stamp target/staticlib "$root/target"
+    (cd "$root" && rt staticlib burst)
+}
+
+# The same for a program, in this root.
 build_program() {
-    if [ ! -f "target/bin/$1" ] || [ -n "$(find crates crates.txt -newer "target/bin/$1" -print -quit)" ]; then
-        rt check "$1"
-    fi
+    stale "target/bin/$1" || return 0
+    rt check "$1"
+}
+
+compile_trace_driver() {
+    $compiler $warnings -O2 -g $(sanitizers) tests/trace_driver.c tests/trace.c tests/reference.c tests/cards.c -lm -o "$built/trace_driver"
 }
 
 # The sanitizers' options, if the compiler has them and what it builds with them runs.

@@ -13,6 +13,8 @@
 #include "reference.h"
 #include "trace.h"
 
+#include <errno.h>
+#include <spawn.h>
 #include <stdio.h>
 #include <stdlib.h>
 #include <string.h>
@@ -222,18 +224,26 @@ static int file_with(const uint8_t *bytes, size_t size)
     return file;
 }
 
+/* Starts the program. (Not by fork, which would copy the sanitizers' memory each time.) */
+static pid_t start(const char *program, int input, int output)
+{
+    char *const words[] = {"sh", "-c", (char *)program, NULL};
+    posix_spawn_file_actions_t files;
+    pid_t child;
+    posix_spawn_file_actions_init(&files);
+    posix_spawn_file_actions_adddup2(&files, input, 0);
+    posix_spawn_file_actions_adddup2(&files, output, 1);
+    errno = posix_spawn(&child, "/bin/sh", &files, NULL, words, environ);
+    stop_if(errno != 0, "posix_spawn");
+    posix_spawn_file_actions_destroy(&files);
+    return child;
+}
+
 /* Runs the program on the trace. Gives what it wrote, as text. */
 static struct text run(const char *program)
 {
     int input = file_with(trace, length), output = file_with(NULL, 0), status = 0;
-    pid_t child = fork();
-    stop_if(child < 0, "fork");
-    if (child == 0) {
-        dup2(input, 0);
-        dup2(output, 1);
-        execl("/bin/sh", "sh", "-c", program, (char *)NULL);
-        _exit(127);
-    }
+    pid_t child = start(program, input, output);
     stop_if(waitpid(child, &status, 0) != child, "waitpid");
     struct text text = {NULL, (size_t)lseek(output, 0, SEEK_END), 0};
     text.bytes = malloc(text.length + 1);
