@@ -24,41 +24,37 @@ fn magnitude(x: i32) -> u64 {
 // The count of output frames, or minus the refusal.
 fn answer(came: i32) {
     if came < 0 {
-        lines::text(b": refused ");
+        lines::counted(b": refused ", magnitude(came));
     } else {
-        lines::text(b": count ");
+        lines::counted(b": count ", magnitude(came));
     }
-    lines::number(magnitude(came));
 }
 
-// A line begun: its name, and what the call answers on the card of that letter.
-pub(crate) fn answered(call: Call, name: &[u8], letter: u8, input: &[u8], output: &mut [u8]) {
+// What the call answers on the card of that letter.
+pub(crate) fn answered(call: Call, letter: u8, input: &[u8], output: &mut [u8]) {
     let draft = drafts::named(letter);
     let bytes = draft.bytes;
-    let came = call_of(call, lines::front(&bytes, draft.len), input, output);
-    lines::text(name);
-    answer(came);
+    answer(call_of(call, lines::front(&bytes, draft.len), input, output));
 }
 
 fn bytes(output: &[u8]) {
     lines::text(b", bytes");
     for i in 0..output.len() {
-        lines::text(b" ");
-        lines::number(output[i] as u64);
+        lines::counted(b" ", output[i] as u64);
     }
 }
 
 // What the call answers, and every byte that was lent for the output.
-fn shown(call: Call, name: &[u8], letter: u8, input: &[u8], output: &mut [u8]) {
-    answered(call, name, letter, input, output);
+fn shown(call: Call, letter: u8, input: &[u8], output: &mut [u8]) {
+    answered(call, letter, input, output);
     bytes(output);
     lines::text(b"\n");
 }
 
 // What a row feeds is the letter of a card, the room for output frames, eight at most, and the input frames.
-pub(crate) fn row(call: Call, name: &[u8], fed: &[u8]) {
+pub(crate) fn row(call: Call, fed: &[u8]) {
     let mut output = [BEFORE; 8];
     let room = bits::at_most(bits::size(tables::byte(fed, 1)), 8);
     let input = tables::from(fed, 2);
-    shown(call, name, tables::byte(fed, 0), input, &mut output[..room]);
+    shown(call, tables::byte(fed, 0), input, &mut output[..room]);
 }

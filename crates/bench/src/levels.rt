@@ -60,8 +60,8 @@ fn lettered(first: u8, third: u8, other: u8) -> [Reading; 8] {
 }
 
 // What a row feeds are the letters of the first reading, of the third and of those after it.
-pub(crate) fn row(name: &[u8], fed: &[u8]) {
-    let s = receiving::opened(name, b'M');
+pub(crate) fn row(fed: &[u8]) {
+    let s = receiving::opened(b'M');
     receive(
         s,
         lettered(
@@ -94,10 +94,8 @@ fn digits() {
 
 // Bytes and readings in one session.
 fn mixed() {
-    let p = receiving::opened(
-        b"P receives 3 as readings, 3, 3 as bytes, 2 as readings",
-        b'P',
-    );
+    lines::text(b"P receives 3 as readings, 3, 3 as bytes, 2 as readings");
+    let p = receiving::opened(b'P');
     let bytes = receiving::steps(receive(p, lettered(b'h', b'e', b'-')), b"\x03\x03");
     receive(bytes, lettered(b'e', b'e', b'-'));
     lines::text(b"\n");
@@ -109,10 +107,8 @@ pub(crate) fn receive_nan(s: Session) -> Session {
 
 // A refused call leaves the session as it was; 14 comes before 12.
 fn refused_calls() {
-    let p = receiving::opened(
-        b"P receives NaN under card number 8, then NaN, 3, 2 under 7",
-        b'P',
-    );
+    lines::text(b"P receives NaN under card number 8, then NaN, 3, 2 under 7");
+    let p = receiving::opened(b'P');
     let other = receive_under(p, 8, lettered(b'n', b'e', b'-'));
     receiving::steps(other, b"n\x03\x02");
     lines::text(b"\n");

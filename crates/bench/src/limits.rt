@@ -50,8 +50,7 @@ fn ones(s: Session, times: usize) -> Run {
 
 pub(crate) fn send_ones(s: Session, times: usize) -> Session {
     let run = ones(s, times);
-    lines::text(b", ");
-    lines::number(run.frames);
+    lines::counted(b", ", run.frames);
     lines::text(b" frames");
     run.session
 }
@@ -67,10 +66,8 @@ fn sending_sessions() {
 
 // 14 comes before 15, and 15 before 11 and 12.
 fn receiving_session() {
-    let p = receiving::opened(
-        b"P receives 0 for 1048576 times, then 0, 4 and NaN, then 0 under card number 8",
-        b'P',
-    );
+    lines::text(b"P receives 0 for 1048576 times, then 0, 4 and NaN, then 0 under card number 8");
+    let p = receiving::opened(b'P');
     receiving::receive_under(receiving::steps(p, b"=\x00\x04n"), 8, 0);
     lines::text(b"\n");
 }
@@ -90,11 +87,11 @@ fn room(byte: u8) -> [u8; 1048576]
 }
 
 // What a row feeds is the letter of a card, the sign of a count, and the frame that is given so many times.
-pub(crate) fn row(call: Call, name: &[u8], fed: &[u8]) {
+pub(crate) fn row(call: Call, fed: &[u8]) {
     let frames = too_many(tables::byte(fed, 2));
     let mut output = room(bursts::BEFORE);
     let input = lines::front(&frames, count(tables::byte(fed, 1)));
-    bursts::answered(call, name, tables::byte(fed, 0), input, &mut output);
+    bursts::answered(call, tables::byte(fed, 0), input, &mut output);
     lines::text(b"\n");
 }
 

@@ -10,18 +10,21 @@ pub(crate) fn number(n: u64) {
     io::print_decimal(STDOUT_FILENO, n);
 }
 
-pub(crate) fn refused(refusal: card::Refusal) {
-    text(b"refused ");
-    number(card::refusal_number(refusal) as u64);
+pub(crate) fn counted(words: &[u8], n: u64) {
+    text(words);
+    number(n);
+}
+
+pub(crate) fn refused(words: &[u8], refusal: card::Refusal) {
+    counted(words, card::refusal_number(refusal) as u64);
 }
 
 pub(crate) fn verdict(v: card::Verdict) {
     match v {
-        card::Verdict::Accepted => text(b"accepted"),
+        card::Verdict::Accepted => text(b": accepted"),
         card::Verdict::Refused { refusal, offset } => {
-            refused(refusal);
-            text(b" at ");
-            number(offset as u64);
+            refused(b": refused ", refusal);
+            counted(b" at ", offset as u64);
         }
     }
 }
@@ -43,7 +46,6 @@ pub(crate) fn outcome(draft: Draft) {
     let bytes = draft.bytes;
     let read = card::read_card(front(&bytes, draft.len));
     let v = read.verdict;
-    text(b": ");
     verdict(v);
     text(b"\n");
 }

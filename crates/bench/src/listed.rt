@@ -17,23 +17,18 @@ const SHOWN: usize = 100;
 const LAST_LINE: usize = 10;
 
 pub(crate) fn cases() {
-    listed(b"the empty input", b"");
-    listed(b"an input of one byte", b"\x14");
     inputs();
-    let frames = [0u8; 32769];
-    input(
-        b"P and 32768 frames",
-        b"\x14\x00",
-        b'P',
-        lines::front(&frames, 32768),
-    );
-    input(b"P and 32769 frames", b"\x14\x00", b'P', &frames);
+    long_inputs();
 }
 
+// What a row feeds is the input by its parts: the two bytes of the stated length, the letter of the card, the frames. The first two end
+// before they have a card.
 fn inputs() {
     tables::each(
         Kind::Listing,
-        b"P and no frames|\x14\x00P;\
+        b"the empty input|;\
+          an input of one byte|\x14;\
+          P and no frames|\x14\x00P;\
           the first 19 bytes of P, 20 stated|\x14\x00p;\
           P, 2048 bytes stated|\x00\x08P;\
           P, 2049 bytes stated|\x01\x08P;\
@@ -43,24 +38,32 @@ fn inputs() {
     );
 }
 
-// What a row feeds is the input by its parts: the two bytes of the stated length, the letter of the card, the frames.
-pub(crate) fn row(name: &[u8], fed: &[u8]) {
+pub(crate) fn row(fed: &[u8]) {
     input(
-        name,
         lines::front(fed, 2),
         tables::byte(fed, 2),
         tables::from(fed, 3),
     );
 }
 
-fn input(name: &[u8], length: &[u8], letter: u8, frames: &[u8]) {
+// At the longest input that is listed.
+fn long_inputs() {
+    let stated = b"\x14\x00";
+    let frames = [0u8; 32769];
+    lines::text(b"P and 32768 frames");
+    input(stated, b'P', lines::front(&frames, 32768));
+    lines::text(b"P and 32769 frames");
+    input(stated, b'P', &frames);
+}
+
+fn input(length: &[u8], letter: u8, frames: &[u8]) {
     let mut whole = [0u8; ROOM];
     let after_length = put(&mut whole, 0, length);
     let draft = drafts::named(letter);
     let bytes = draft.bytes;
     let after_card = put(&mut whole, after_length, lines::front(&bytes, draft.len));
     let end = put(&mut whole, after_card, frames);
-    listed(name, lines::front(&whole, end));
+    listed(lines::front(&whole, end));
 }
 
 // One byte more, if there is room; where it ends.
@@ -85,10 +88,9 @@ fn put(whole: &mut [u8; ROOM], start: usize, bytes: &[u8]) -> usize
     end
 }
 
-fn listed(name: &[u8], input: &[u8]) {
+fn listed(input: &[u8]) {
     let mut output = [0u8; LISTING_ROOM];
     let count = listing::list(input, &mut output);
-    lines::text(name);
     lines::text(b", listed:\n");
     shown(&output[..count]);
 }

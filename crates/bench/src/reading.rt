@@ -14,17 +14,20 @@ pub(crate) fn cases() {
     lengths();
 }
 
-// What a row feeds is the letter of a card, and after it nothing, a byte to add, or the offset and the value of a byte to change.
-pub(crate) fn row(name: &[u8], fed: &[u8]) {
-    lines::text(name);
+// What a row feeds is the letter of a card, and after it nothing, a byte to add, or the offset and the value of a byte to change; or, of a
+// plain card, any letter, k, n, and the two bytes of the generator map.
+pub(crate) fn row(fed: &[u8]) {
     lines::outcome(drafted(fed));
 }
 
 fn drafted(fed: &[u8]) -> Draft {
     let card = drafts::named(tables::byte(fed, 0));
+    let one = tables::byte(fed, 1);
+    let two = tables::byte(fed, 2);
     match fed.len() {
-        2 => drafts::byte(card, tables::byte(fed, 1)),
-        3 => drafts::changed(card, bits::size(tables::byte(fed, 1)), tables::byte(fed, 2)),
+        2 => drafts::byte(card, one),
+        3 => drafts::changed(card, bits::size(one), two),
+        5 => drafts::plain(one, two, tables::byte(fed, 3), tables::byte(fed, 4)),
         _ => card,
     }
 }
@@ -58,33 +61,28 @@ fn memory() {
 
 // k at both ends, and n at both ends for each k.
 fn stream_counts() {
-    plain(0, 2, 1);
-    plain(5, 8, 1);
-    plain(1, 1, 1);
-    plain(1, 2, 1);
-    plain(1, 8, 1);
-    plain(1, 9, 1);
-    plain(2, 2, 3);
-    plain(2, 3, 3);
-    plain(2, 8, 0x41);
-    plain(2, 9, 0x41);
-    plain(3, 3, 7);
-    plain(3, 4, 7);
-    plain(3, 8, 0x421);
-    plain(3, 9, 0x421);
-    plain(4, 4, 0xf);
-    plain(4, 5, 0xf);
-    plain(4, 8, 0x1111);
-    plain(4, 9, 0x1111);
-    row(b"k 2, n by default", b"n");
-}
-
-fn plain(k: u8, n: u8, map: u16) {
-    lines::text(b"k ");
-    lines::number(k as u64);
-    lines::text(b", n ");
-    lines::number(n as u64);
-    lines::outcome(drafts::plain(k, n, map));
+    tables::each(
+        Kind::Card,
+        b"k 0, n 2|K\x00\x02\x01\x00;\
+          k 5, n 8|K\x05\x08\x01\x00;\
+          k 1, n 1|K\x01\x01\x01\x00;\
+          k 1, n 2|K\x01\x02\x01\x00;\
+          k 1, n 8|K\x01\x08\x01\x00;\
+          k 1, n 9|K\x01\x09\x01\x00;\
+          k 2, n 2|K\x02\x02\x03\x00;\
+          k 2, n 3|K\x02\x03\x03\x00;\
+          k 2, n 8|K\x02\x08\x41\x00;\
+          k 2, n 9|K\x02\x09\x41\x00;\
+          k 3, n 3|K\x03\x03\x07\x00;\
+          k 3, n 4|K\x03\x04\x07\x00;\
+          k 3, n 8|K\x03\x08\x21\x04;\
+          k 3, n 9|K\x03\x09\x21\x04;\
+          k 4, n 4|K\x04\x04\x0f\x00;\
+          k 4, n 5|K\x04\x05\x0f\x00;\
+          k 4, n 8|K\x04\x08\x11\x11;\
+          k 4, n 9|K\x04\x09\x11\x11;\
+          k 2, n by default|n;",
+    );
 }
 
 // P's maps are byte 0, bytes 3 and 4 for its one generator, and byte 10 for the one parity stream of its first check. Its generator begins
@@ -119,8 +117,7 @@ fn cuts() {
 }
 
 fn cut(len: usize) {
-    lines::text(b"P cut at byte ");
-    lines::number(len as u64);
+    lines::counted(b"P cut at byte ", len as u64);
     lines::outcome(drafts::cut(drafts::named(b'P'), len));
 }
 

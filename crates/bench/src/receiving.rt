@@ -17,14 +17,12 @@ pub(crate) fn cases() {
     refused_bursts();
 }
 
-// A line begun: its name, and the verdict on the card of that letter. What each call answers comes after it.
-pub(crate) fn opened(name: &[u8], letter: u8) -> Session {
+// The verdict on the card of that letter. What each call answers comes after it.
+pub(crate) fn opened(letter: u8) -> Session {
     let draft = drafts::named(letter);
     let bytes = draft.bytes;
     let opened = decoder::open(lines::front(&bytes, draft.len));
     let verdict = opened.verdict;
-    lines::text(name);
-    lines::text(b": ");
     lines::verdict(verdict);
     opened.session
 }
@@ -32,14 +30,8 @@ pub(crate) fn opened(name: &[u8], letter: u8) -> Session {
 pub(crate) fn answer(came: Answer) {
     match came {
         Answer::Waiting => lines::text(b", waiting"),
-        Answer::Frame(frame) => {
-            lines::text(b", frame ");
-            lines::number(frame as u64);
-        }
-        Answer::Refused(refusal) => {
-            lines::text(b", ");
-            lines::refused(refusal);
-        }
+        Answer::Frame(frame) => lines::counted(b", frame ", frame as u64),
+        Answer::Refused(refusal) => lines::refused(b", refused ", refusal),
     }
 }
 
@@ -57,8 +49,7 @@ fn receive(s: Session, frame: u8) -> Session {
 }
 
 fn figure(s: Session) -> Session {
-    lines::text(b", figure ");
-    lines::number(decoder::link_figure(s) as u64);
+    lines::counted(b", figure ", decoder::link_figure(s) as u64);
     s
 }
 
@@ -95,10 +86,8 @@ fn zeros(s: Session, times: u32) -> Run {
 
 fn receive_zeros(s: Session, times: u32) -> Session {
     let run = zeros(s, times);
-    lines::text(b", ");
-    lines::number(run.waiting as u64);
-    lines::text(b" waiting and ");
-    lines::number(run.frames as u64);
+    lines::counted(b", ", run.waiting as u64);
+    lines::counted(b" waiting and ", run.frames as u64);
     lines::text(b" frames");
     run.session
 }
@@ -124,8 +113,8 @@ pub(crate) fn steps(s: Session, fed: &[u8]) -> Session {
 }
 
 // What a row feeds is the letter of a card, and the steps of the session.
-pub(crate) fn row(name: &[u8], fed: &[u8]) {
-    steps(opened(name, tables::byte(fed, 0)), tables::from(fed, 1));
+pub(crate) fn row(fed: &[u8]) {
+    steps(opened(tables::byte(fed, 0)), tables::from(fed, 1));
     lines::text(b"\n");
 }
 
@@ -149,18 +138,12 @@ fn sessions() {
 
 // A refused call leaves the session as it was; 14 comes before 11.
 fn refused_calls() {
-    let p = opened(
-        b"P receives 3, 4 under card number 8, then 4, 3, 2 under 7",
-        b'P',
-    );
-    let other = receive_under(receive_under(p, 8, 3), 8, 4);
+    lines::text(b"P receives 3, 4 under card number 8, then 4, 3, 2 under 7");
+    let other = receive_under(receive_under(opened(b'P'), 8, 3), 8, 4);
     steps(other, b"\x04\x03\x02");
     lines::text(b"\n");
-    let cut = opened(
-        b"the first 19 bytes of P receive 3 under card numbers 7 and 0",
-        b'p',
-    );
-    receive_under(receive_under(cut, 7, 3), 0, 3);
+    lines::text(b"the first 19 bytes of P receive 3 under card numbers 7 and 0");
+    receive_under(receive_under(opened(b'p'), 7, 3), 0, 3);
     lines::text(b"\n");
 }
 

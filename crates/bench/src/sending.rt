@@ -15,28 +15,20 @@ pub(crate) fn cases() {
     refused_bursts();
 }
 
-// A line begun: its name, and the verdict on the card of that letter. What each call answers comes after it.
-fn opened(name: &[u8], letter: u8) -> Session {
+// The verdict on the card of that letter. What each call answers comes after it.
+fn opened(letter: u8) -> Session {
     let draft = drafts::named(letter);
     let bytes = draft.bytes;
     let opened = encoder::open(lines::front(&bytes, draft.len));
     let verdict = opened.verdict;
-    lines::text(name);
-    lines::text(b": ");
     lines::verdict(verdict);
     opened.session
 }
 
 fn answer(came: Answer) {
     match came {
-        Answer::Frame(frame) => {
-            lines::text(b", frame ");
-            lines::number(frame as u64);
-        }
-        Answer::Refused(refusal) => {
-            lines::text(b", ");
-            lines::refused(refusal);
-        }
+        Answer::Frame(frame) => lines::counted(b", frame ", frame as u64),
+        Answer::Refused(refusal) => lines::refused(b", refused ", refusal),
     }
 }
 
@@ -72,8 +64,8 @@ fn steps(s: Session, fed: &[u8]) -> Session {
 }
 
 // What a row feeds is the letter of a card, and the steps of the session.
-pub(crate) fn row(name: &[u8], fed: &[u8]) {
-    steps(opened(name, tables::byte(fed, 0)), tables::from(fed, 1));
+pub(crate) fn row(fed: &[u8]) {
+    steps(opened(tables::byte(fed, 0)), tables::from(fed, 1));
     lines::text(b"\n");
 }
 

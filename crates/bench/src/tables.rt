@@ -1,4 +1,5 @@
-// The tables of cases. A row is its name, a bar, the bytes that it feeds, and a semicolon; neither of the two stands in a name or is fed.
+// The tables of cases. A row is its name, a bar, the bytes that it feeds, and a semicolon; neither of the two stands in a name or is fed. Its
+// line begins with its name.
 // A table is one byte string, for one loop to walk: a call for each row, with a byte string for its name, is dear to check.
 use crate::bursts;
 use crate::bursts::Call;
@@ -21,15 +22,15 @@ pub(crate) enum Kind {
     Listing,
 }
 
-fn row(kind: Kind, name: &[u8], fed: &[u8]) {
+fn row(kind: Kind, fed: &[u8]) {
     match kind {
-        Kind::Card => reading::row(name, fed),
-        Kind::Sending => sending::row(name, fed),
-        Kind::Receiving => receiving::row(name, fed),
-        Kind::Levels => levels::row(name, fed),
-        Kind::Burst(call) => bursts::row(call, name, fed),
-        Kind::LongBurst(call) => limits::row(call, name, fed),
-        Kind::Listing => listed::row(name, fed),
+        Kind::Card => reading::row(fed),
+        Kind::Sending => sending::row(fed),
+        Kind::Receiving => receiving::row(fed),
+        Kind::Levels => levels::row(fed),
+        Kind::Burst(call) => bursts::row(call, fed),
+        Kind::LongBurst(call) => limits::row(call, fed),
+        Kind::Listing => listed::row(fed),
     }
 }
 
@@ -41,8 +42,8 @@ pub(crate) fn each(kind: Kind, table: &[u8]) {
             bar = i;
         }
         if table[i] == b';' {
-            let name = lines::part(table, start, bar);
-            row(kind, name, lines::part(table, bar + 1, i));
+            lines::text(lines::part(table, start, bar));
+            row(kind, lines::part(table, bar + 1, i));
             start = i + 1;
         }
     }

@@ -88,9 +88,9 @@ fn bytes(draft: Draft, values: &[u8]) -> Draft {
 }
 
 // k and n stand, m is 0. Each information stream has the generator 1 at parity stream 1, whose bit is in the map, and the one check s0.
-pub fn plain(k: u8, n: u8, map: u16) -> Draft {
+pub fn plain(k: u8, n: u8, map_low: u8, map_high: u8) -> Draft {
     let head = byte(byte(byte(of(b"\x03\x01"), k), n), 0);
-    let code = byte(byte(head, (map % 256) as u8), (map / 256) as u8);
+    let code = byte(byte(head, map_low), map_high);
     let generators = repeated(code, b"\x01\x00\x00\x00", k);
     repeated(generators, b"\x01\x01\x01\x00\x00\x00", k)
 }

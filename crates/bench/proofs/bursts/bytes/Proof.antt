@@ -22,20 +22,17 @@ text-requires c κs = search needs
 loop-holds : tie.Need-loop-holds Inv-loop μ-loop
 loop-holds c = search needs
 
-slice-aggregate-text-2 : tie.Need-slice-aggregate-text-2 Inv-loop μ-loop
-slice-aggregate-text-2 c = search needs
+slice-aggregate-counted : tie.Need-slice-aggregate-counted Inv-loop μ-loop
+slice-aggregate-counted c = search needs
 
-text-requires-2 : tie.Need-text-requires-2 Inv-loop μ-loop
-text-requires-2 c κs = search needs
+shared-slice-read-counted : tie.Need-shared-slice-read-counted Inv-loop μ-loop
+shared-slice-read-counted c = search needs
 
-shared-slice-read-number : tie.Need-shared-slice-read-number Inv-loop μ-loop
-shared-slice-read-number c = search needs
+cast-counted : tie.Need-cast-counted Inv-loop μ-loop
+cast-counted c = record { fits = omega (arith, c .shared-slice-known2 .given (c .before .before .before .loop .i)) }
 
-cast-number : tie.Need-cast-number Inv-loop μ-loop
-cast-number c = record { fits = omega (arith, c .shared-slice-known2 .given (c .before .before .before .before .loop .i)) }
-
-number-requires : tie.Need-number-requires Inv-loop μ-loop
-number-requires c κs = search needs
+counted-requires : tie.Need-counted-requires Inv-loop μ-loop
+counted-requires c κs = search needs
 
 add-i : tie.Need-add-i Inv-loop μ-loop
 add-i c = search needs
@@ -58,11 +55,10 @@ bytes-spec =
     slice-aggregate-text
     text-requires
     loop-holds
-    slice-aggregate-text-2
-    text-requires-2
-    shared-slice-read-number
-    cast-number
-    number-requires
+    slice-aggregate-counted
+    shared-slice-read-counted
+    cast-counted
+    counted-requires
     add-i
     loop-less
     loop-again

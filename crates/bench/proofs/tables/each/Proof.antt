@@ -26,8 +26,11 @@ shared-slice-read-if2 c = search needs
 part-requires : tie.Need-part-requires Inv-loop μ-loop
 part-requires c κs = search needs
 
+text-requires : tie.Need-text-requires Inv-loop μ-loop
+text-requires c κs = search needs
+
 add-part : tie.Need-add-part Inv-loop μ-loop
-add-part c = ⊎-elim (λ w. record { fits = omega arith }) (λ w. record { fits = omega arith }) (c .before .before .before .before .if1 .came)
+add-part c = ⊎-elim (λ w. record { fits = omega arith }) (λ w. record { fits = omega arith }) (c .before .before .before .before .before .if1 .came)
 
 part-requires-2 : tie.Need-part-requires-2 Inv-loop μ-loop
 part-requires-2 c κs = search needs
@@ -60,6 +63,7 @@ each-spec =
     shared-slice-read-if1
     shared-slice-read-if2
     part-requires
+    text-requires
     add-part
     part-requires-2
     row-requires
