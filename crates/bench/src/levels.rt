@@ -6,23 +6,11 @@ use crate::tables::Kind;
 use decoder::Reading;
 use decoder::Session;
 
-pub(crate) fn cases() {
-    digits();
-    mixed();
-    refused_calls();
-}
-
-fn receive_under(s: Session, number: u8, readings: [Reading; 8]) -> Session {
+pub(crate) fn receive(s: Session, number: u8, readings: [Reading; 8]) -> Session {
     let received = decoder::receive_readings(s, number, readings);
     let came = received.answer;
     receiving::answer(came);
     received.session
-}
-
-// Under the session's own card number.
-fn receive(s: Session, readings: [Reading; 8]) -> Session {
-    let card = s.card;
-    receive_under(s, card.number, readings)
 }
 
 // Eight readings: the second is a level above zero, and those after the third are alike.
@@ -55,26 +43,25 @@ fn reading(letter: u8) -> Reading {
     }
 }
 
-fn lettered(first: u8, third: u8, other: u8) -> [Reading; 8] {
+pub(crate) fn lettered(first: u8, third: u8, other: u8) -> [Reading; 8] {
     readings(reading(first), reading(third), reading(other))
 }
 
-// What a row feeds are the letters of the first reading, of the third and of those after it.
+// What a row feeds are the letters of the first reading, of the third and of those after it. The card has no memory.
 pub(crate) fn row(fed: &[u8]) {
     let s = receiving::opened(b'M');
-    receive(
-        s,
-        lettered(
-            tables::byte(fed, 0),
-            tables::byte(fed, 1),
-            tables::byte(fed, 2),
-        ),
+    let card = s.card;
+    let levels = lettered(
+        tables::byte(fed, 0),
+        tables::byte(fed, 1),
+        tables::byte(fed, 2),
     );
+    receive(s, card.number, levels);
     lines::text(b"\n");
 }
 
 // With the digits d, 1 and 0 one of the two checks is 1, so that d is handed out. The third reading is the last of three streams.
-fn digits() {
+pub(crate) fn digits() {
     tables::each(
         Kind::Levels,
         b"m 0 reads 0.5, 1, -1|h--;\
@@ -90,26 +77,4 @@ fn digits() {
           m 0 reads 0.5, 1, NaN|hn-;\
           m 0 reads 0.5, 1, -1, then NaN|h-n;",
     );
-}
-
-// Bytes and readings in one session.
-fn mixed() {
-    lines::text(b"P receives 3 as readings, 3, 3 as bytes, 2 as readings");
-    let p = receiving::opened(b'P');
-    let bytes = receiving::steps(receive(p, lettered(b'h', b'e', b'-')), b"\x03\x03");
-    receive(bytes, lettered(b'e', b'e', b'-'));
-    lines::text(b"\n");
-}
-
-pub(crate) fn receive_nan(s: Session) -> Session {
-    receive(s, lettered(b'n', b'e', b'-'))
-}
-
-// A refused call leaves the session as it was; 14 comes before 12.
-fn refused_calls() {
-    lines::text(b"P receives NaN under card number 8, then NaN, 3, 2 under 7");
-    let p = receiving::opened(b'P');
-    let other = receive_under(p, 8, lettered(b'n', b'e', b'-'));
-    receiving::steps(other, b"n\x03\x02");
-    lines::text(b"\n");
 }

@@ -3,7 +3,6 @@
 use crate::bursts;
 use crate::bursts::Call;
 use crate::lines;
-use crate::receiving;
 use crate::tables;
 use crate::tables::Kind;
 use encoder::Answer;
@@ -66,10 +65,10 @@ fn sending_sessions() {
 
 // 14 comes before 15, and 15 before 11 and 12.
 fn receiving_session() {
-    lines::text(b"P receives 0 for 1048576 times, then 0, 4 and NaN, then 0 under card number 8");
-    let p = receiving::opened(b'P');
-    receiving::receive_under(receiving::steps(p, b"=\x00\x04n"), 8, 0);
-    lines::text(b"\n");
+    tables::each(
+        Kind::Receiving,
+        b"P receives 0 for 1048576 times, then 0, 4 and NaN, then 0 under card number 8|P=\x00\x04n 8 \x00;",
+    );
 }
 
 // Frames all alike, one more than a stream may have.

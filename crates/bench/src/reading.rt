@@ -6,10 +6,8 @@ use drafts::Draft;
 
 pub(crate) fn cases() {
     starred();
-    memory();
-    stream_counts();
-    maps_and_masks();
-    check_counts();
+    memory_and_streams();
+    maps_masks_and_counts();
     cuts();
     lengths();
 }
@@ -49,21 +47,14 @@ fn starred() {
     );
 }
 
-// m is byte 2 of P.
-fn memory() {
+// m is byte 2 of P. Then k at both ends, and n at both ends for each k.
+fn memory_and_streams() {
     tables::each(
         Kind::Card,
         b"P with m 31|P\x02\x1f;\
           P with m 31 and terms 0 and 31|F;\
-          P with m 32|P\x02\x20;",
-    );
-}
-
-// k at both ends, and n at both ends for each k.
-fn stream_counts() {
-    tables::each(
-        Kind::Card,
-        b"k 0, n 2|K\x00\x02\x01\x00;\
+          P with m 32|P\x02\x20;\
+          k 0, n 2|K\x00\x02\x01\x00;\
           k 5, n 8|K\x05\x08\x01\x00;\
           k 1, n 1|K\x01\x01\x01\x00;\
           k 1, n 2|K\x01\x02\x01\x00;\
@@ -86,8 +77,8 @@ fn stream_counts() {
 }
 
 // P's maps are byte 0, bytes 3 and 4 for its one generator, and byte 10 for the one parity stream of its first check. Its generator begins
-// at byte 5, the mask of its first check at byte 11; m is 1.
-fn maps_and_masks() {
+// at byte 5, the mask of its first check at byte 11; m is 1. J is byte 34 of the card with sixteen checks.
+fn maps_masks_and_counts() {
     tables::each(
         Kind::Card,
         b"P with bit 2 of byte 0|P\x00\x04;\
@@ -100,13 +91,11 @@ fn maps_and_masks() {
           P with a generator that is zero|P\x05\x00;\
           P with a generator that has a bit above m|P\x05\x07;\
           P with a check's mask that is zero|P\x0b\x00;\
-          P with a check's mask that has a bit above m|P\x0b\x05;",
+          P with a check's mask that has a bit above m|P\x0b\x05;\
+          J 0|S\x22\x00;\
+          J 16|S;\
+          J 17|S\x22\x11;",
     );
-}
-
-// J is byte 34 of the card with sixteen checks.
-fn check_counts() {
-    tables::each(Kind::Card, b"J 0|S\x22\x00;J 16|S;J 17|S\x22\x11;");
 }
 
 // P ends at byte 20.

@@ -10,11 +10,9 @@ use decoder::Session;
 
 pub(crate) fn cases() {
     sessions();
-    levels::cases();
-    refused_calls();
+    levels::digits();
+    mixed_sessions();
     whole_bursts();
-    short_bursts();
-    refused_bursts();
 }
 
 // The verdict on the card of that letter. What each call answers comes after it.
@@ -35,17 +33,11 @@ pub(crate) fn answer(came: Answer) {
     }
 }
 
-pub(crate) fn receive_under(s: Session, number: u8, frame: u8) -> Session {
+fn receive(s: Session, number: u8, frame: u8) -> Session {
     let received = decoder::receive_byte(s, number, frame);
     let came = received.answer;
     answer(came);
     received.session
-}
-
-// Under the session's own card number.
-fn receive(s: Session, frame: u8) -> Session {
-    let card = s.card;
-    receive_under(s, card.number, frame)
 }
 
 fn figure(s: Session) -> Session {
@@ -92,22 +84,35 @@ fn receive_zeros(s: Session, times: u32) -> Session {
     run.session
 }
 
-// An `f` asks for the link figure, a `z` for the frame 0 thirty times, an `=` for it as often as a stream may have frames, an `n` for a
-// reading that is not a number; any other byte is the frame.
-fn step(s: Session, fed: u8) -> Session {
+// An `f` asks for the link figure, a `z` for the frame 0 thirty times, an `=` for it as often as a stream may have frames. A letter of
+// `levels` is a reading, with a level above zero after it. Any other byte is the frame, but for spaces and card numbers.
+fn step(s: Session, number: u8, fed: u8) -> Session {
     match fed {
+        b' ' | b'0'..=b'9' => s,
         b'f' => figure(s),
         b'z' => receive_zeros(s, 30),
         b'=' => receive_zeros(s, 1048576),
-        b'n' => levels::receive_nan(s),
-        _ => receive(s, fed),
+        b'h' | b'e' | b'n' => levels::receive(s, number, levels::lettered(fed, b'e', b'-')),
+        _ => receive(s, number, fed),
     }
 }
 
-pub(crate) fn steps(s: Session, fed: &[u8]) -> Session {
+// The card number that a call is under: a digit tells it for itself and those after it.
+fn number_at(number: u8, fed: u8) -> u8 {
+    match fed {
+        b'0'..=b'9' => fed - b'0',
+        _ => number,
+    }
+}
+
+// Under the session's own card number, where no other is told.
+fn steps(s: Session, fed: &[u8]) -> Session {
+    let card = s.card;
+    let mut number = card.number;
     let mut session = s;
     for i in 0..fed.len() {
-        session = step(session, fed[i]);
+        number = number_at(number, fed[i]);
+        session = step(session, number, fed[i]);
     }
     session
 }
@@ -136,17 +141,20 @@ fn sessions() {
     );
 }
 
-// A refused call leaves the session as it was; 14 comes before 11.
-fn refused_calls() {
-    lines::text(b"P receives 3, 4 under card number 8, then 4, 3, 2 under 7");
-    let other = receive_under(receive_under(opened(b'P'), 8, 3), 8, 4);
-    steps(other, b"\x04\x03\x02");
-    lines::text(b"\n");
-    lines::text(b"the first 19 bytes of P receive 3 under card numbers 7 and 0");
-    receive_under(receive_under(opened(b'p'), 7, 3), 0, 3);
-    lines::text(b"\n");
+// Bytes and readings in one session; then calls under other card numbers. A refused call leaves the session as it was; 14 comes before 12
+// and before 11.
+fn mixed_sessions() {
+    tables::each(
+        Kind::Receiving,
+        b"P receives 3 as readings, 3, 3 as bytes, 2 as readings|Ph\x03\x03e;\
+          P receives NaN under card number 8, then NaN, 3, 2 under 7|P 8 n 7 n\x03\x02;\
+          P receives 3, 4 under card number 8, then 4, 3, 2 under 7|P 8 \x03\x04 7 \x04\x03\x02;\
+          the first 19 bytes of P receive 3 under card numbers 7 and 0|p 7 \x03 0 \x03;",
+    );
 }
 
+// The last of those that are answered have m frames or fewer, so that none is handed out. Of the refusals, the card comes before 13, and 13
+// before 11.
 fn whole_bursts() {
     tables::each(
         Kind::Burst(Call::Receive),
@@ -155,25 +163,11 @@ fn whole_bursts() {
           Q receives the burst 2, 2, 0, 0 into 1 byte|Q\x01\x02\x02\x00\x00;\
           T receives the burst 4, 4, 4, 0, 0 into 3 bytes|T\x03\x04\x04\x04\x00\x00;\
           k 4, n 8 receives the burst 16, 2, 187, 240 into 3 bytes|E\x03\x10\x02\xbb\xf0;\
-          m 0 receives the burst 7, 6, 2, 1 into 4 bytes|M\x04\x07\x06\x02\x01;",
-    );
-}
-
-// With m frames or fewer, none is handed out.
-fn short_bursts() {
-    tables::each(
-        Kind::Burst(Call::Receive),
-        b"P receives an empty burst into 1 byte|P\x01;\
+          m 0 receives the burst 7, 6, 2, 1 into 4 bytes|M\x04\x07\x06\x02\x01;\
+          P receives an empty burst into 1 byte|P\x01;\
           Q receives the burst 2, 2 into 1 byte|Q\x01\x02\x02;\
-          Q receives the burst 2, 2, 0 into 1 byte|Q\x01\x02\x02\x00;",
-    );
-}
-
-// The card comes before 13, and 13 before 11.
-fn refused_bursts() {
-    tables::each(
-        Kind::Burst(Call::Receive),
-        b"P receives the burst 3, 3, 3, 2 into 2 bytes|P\x02\x03\x03\x03\x02;\
+          Q receives the burst 2, 2, 0 into 1 byte|Q\x01\x02\x02\x00;\
+          P receives the burst 3, 3, 3, 2 into 2 bytes|P\x02\x03\x03\x03\x02;\
           P receives the burst 3, 4, 3, 2 into 3 bytes|P\x03\x03\x04\x03\x02;\
           P receives the burst 3, 4, 3, 2 into 2 bytes|P\x02\x03\x04\x03\x02;\
           the first 19 bytes of P receive the burst 4, 4, 4 into 1 byte|p\x01\x04\x04\x04;",

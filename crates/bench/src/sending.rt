@@ -10,9 +10,7 @@ use encoder::Session;
 
 pub(crate) fn cases() {
     sessions();
-    refused_calls();
     whole_bursts();
-    refused_bursts();
 }
 
 // The verdict on the card of that letter. What each call answers comes after it.
@@ -69,26 +67,21 @@ pub(crate) fn row(fed: &[u8]) {
     lines::text(b"\n");
 }
 
+// A refused call leaves the session as it was; 16 comes before 11.
 fn sessions() {
     tables::each(
         Kind::Sending,
         b"P sends 1, 0, 1 and tail|P\x01\x00\x01t;\
           k 4, n 8 sends 1, 2, 15 and tail|E\x01\x02\x0ft;\
-          m 0 sends a tail frame, then 1, 0|Mt\x01\x00;",
-    );
-}
-
-// A refused call leaves the session as it was; 16 comes before 11.
-fn refused_calls() {
-    tables::each(
-        Kind::Sending,
-        b"P sends a tail frame, then 1, 2 and a tail frame|Pt\x01\x02t;\
+          m 0 sends a tail frame, then 1, 0|Mt\x01\x00;\
+          P sends a tail frame, then 1, 2 and a tail frame|Pt\x01\x02t;\
           P sends 2, a digit beyond stream 1, then 1|P\x02\x01;\
           k 4, n 8 sends 16, a digit beyond stream 4, then 1|E\x10\x01;\
           the first 19 bytes of P send 1 and a tail frame|p\x01t;",
     );
 }
 
+// The card comes before 13, and 13 before 11.
 fn whole_bursts() {
     tables::each(
         Kind::Burst(Call::Send),
@@ -96,15 +89,8 @@ fn whole_bursts() {
           P sends the burst 1, 0, 1 into 6 bytes|P\x06\x01\x00\x01;\
           P sends an empty burst into 1 byte|P\x01;\
           k 4, n 8 sends the burst 1, 2, 15 into 4 bytes|E\x04\x01\x02\x0f;\
-          m 0 sends the burst 1, 0 into 2 bytes|M\x02\x01\x00;",
-    );
-}
-
-// The card comes before 13, and 13 before 11.
-fn refused_bursts() {
-    tables::each(
-        Kind::Burst(Call::Send),
-        b"P sends the burst 1, 0, 1 into 3 bytes|P\x03\x01\x00\x01;\
+          m 0 sends the burst 1, 0 into 2 bytes|M\x02\x01\x00;\
+          P sends the burst 1, 0, 1 into 3 bytes|P\x03\x01\x00\x01;\
           P sends the burst 1, 2, 1 into 4 bytes|P\x04\x01\x02\x01;\
           P sends the burst 1, 2, 1 into 3 bytes|P\x03\x01\x02\x01;\
           the first 19 bytes of P send the burst 1 into 1 byte|p\x01\x01;",

@@ -7,13 +7,19 @@ use Rattle.bench.proofs.receiving.steps.Statement.{statement}
 use Rattle.bench.proofs.receiving.steps.Tie as tie
 
 abbrev Inv-loop : tie.InvT-loop
-Inv-loop fed session₀ i₀ i-end session i = (i ≤ i-end) × (i-end ≡ length fed)
+Inv-loop fed number₀ session₀ i₀ i-end number session i = (i ≤ i-end) × (i-end ≡ length fed)
 
 abbrev μ-loop : tie.MeasureT-loop
-μ-loop fed session₀ i₀ i-end session i = i-end - i
+μ-loop fed number₀ session₀ i₀ i-end number session i = i-end - i
 
 loop-holds : tie.Need-loop-holds Inv-loop μ-loop
 loop-holds c = search needs
+
+shared-slice-read-number-at : tie.Need-shared-slice-read-number-at Inv-loop μ-loop
+shared-slice-read-number-at c = search needs
+
+number-at-requires : tie.Need-number-at-requires Inv-loop μ-loop
+number-at-requires c κs = search needs
 
 shared-slice-read-step : tie.Need-shared-slice-read-step Inv-loop μ-loop
 shared-slice-read-step c = search needs
@@ -40,6 +46,8 @@ steps-spec =
     Inv-loop
     μ-loop
     loop-holds
+    shared-slice-read-number-at
+    number-at-requires
     shared-slice-read-step
     step-requires
     add-i
