@@ -18,7 +18,9 @@ const LAST_LINE: usize = 10;
 
 pub(crate) fn cases() {
     inputs();
-    long_inputs();
+    // As long as an input that is listed may be, and longer.
+    long_input(32768);
+    long_input(32769);
 }
 
 // What a row feeds is the input by its parts: the two bytes of the stated length, the letter of the card, the frames. The first two end
@@ -46,14 +48,12 @@ pub(crate) fn row(fed: &[u8]) {
     );
 }
 
-// At the longest input that is listed.
-fn long_inputs() {
-    let stated = b"\x14\x00";
+// P with so many frames, 32,769 at most.
+fn long_input(count: usize) {
+    lines::counted(b"P and ", count as u64);
+    lines::text(b" frames");
     let frames = [0u8; 32769];
-    lines::text(b"P and 32768 frames");
-    input(stated, b'P', lines::front(&frames, 32768));
-    lines::text(b"P and 32769 frames");
-    input(stated, b'P', &frames);
+    input(b"\x14\x00", b'P', lines::front(&frames, count));
 }
 
 fn input(length: &[u8], letter: u8, frames: &[u8]) {

@@ -14,11 +14,7 @@ pub(crate) fn cases() {
 
 // What a row feeds is the letter of a card, and after it nothing, a byte to add, or the offset and the value of a byte to change; or, of a
 // plain card, any letter, k, n, and the two bytes of the generator map.
-pub(crate) fn row(fed: &[u8]) {
-    lines::outcome(drafted(fed));
-}
-
-fn drafted(fed: &[u8]) -> Draft {
+pub(crate) fn drafted(fed: &[u8]) -> Draft {
     let card = drafts::named(tables::byte(fed, 0));
     let one = tables::byte(fed, 1);
     let two = tables::byte(fed, 2);

@@ -1,5 +1,6 @@
-// The tables of cases. A row is its name, a bar, the bytes that it feeds, and a semicolon; neither of the two stands in a name or is fed. Its
-// line begins with its name.
+// The tables of cases. A row is its name, with which its line begins, a bar, the bytes that it feeds, and a semicolon; neither of the two
+// stands in a name or is fed. A card is fed by its letter: `drafts::named` has them.
+//
 // A table is one byte string, for one loop to walk: a call for each row, with a byte string for its name, is dear to check.
 use crate::bursts;
 use crate::bursts::Call;
@@ -24,7 +25,7 @@ pub(crate) enum Kind {
 
 fn row(kind: Kind, fed: &[u8]) {
     match kind {
-        Kind::Card => reading::row(fed),
+        Kind::Card => lines::outcome(reading::drafted(fed)),
         Kind::Sending => sending::row(fed),
         Kind::Receiving => receiving::row(fed),
         Kind::Levels => levels::row(fed),
