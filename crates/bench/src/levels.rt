@@ -19,7 +19,8 @@ fn readings(first: Reading, third: Reading, other: Reading) -> [Reading; 8] {
     [first, above, third, other, other, other, other, other]
 }
 
-// The level that a letter of a row stands for.
+// The level that a letter of a row stands for: half, zero, the smallest above zero, the largest, not a number, infinity. A capital is minus
+// it; a dash, as any other byte, is minus one.
 fn level(letter: u8) -> f32 {
     match letter {
         b'h' => 0.5,
