@@ -1,6 +1,7 @@
 // Whole bursts: the line of one, whether it is sent or received.
-use crate::cards;
+use crate::drafts;
 use crate::lines;
+use crate::tables;
 
 pub(crate) enum Call {
     Send,
@@ -24,53 +25,37 @@ fn magnitude(x: i32) -> u64 {
 // The count of output frames, or minus the refusal.
 fn answer(came: i32) {
     if came < 0 {
-        lines::text(b": refused ");
+        lines::counted(b": refused ", magnitude(came));
     } else {
-        lines::text(b": count ");
+        lines::counted(b": count ", magnitude(came));
     }
-    lines::number(magnitude(came));
 }
 
-// A line begun: its name, and what the call answers.
-pub(crate) fn answered(
-    call: Call,
-    name: &[u8],
-    draft: cards::Draft,
-    input: &[u8],
-    output: &mut [u8],
-) {
+// What the call answers on the card of that letter.
+pub(crate) fn answered(call: Call, letter: u8, input: &[u8], output: &mut [u8]) {
+    let draft = drafts::named(letter);
     let bytes = draft.bytes;
-    let came = call_of(call, lines::front(&bytes, draft.len), input, output);
-    lines::text(name);
-    answer(came);
+    answer(call_of(call, lines::front(&bytes, draft.len), input, output));
 }
 
-fn row(bytes: &[u8]) {
+fn bytes(output: &[u8]) {
     lines::text(b", bytes");
-    for i in 0..bytes.len() {
-        lines::text(b" ");
-        lines::number(bytes[i] as u64);
+    for i in 0..output.len() {
+        lines::counted(b" ", output[i] as u64);
     }
 }
 
 // What the call answers, and every byte that was lent for the output.
-fn shown(call: Call, name: &[u8], draft: cards::Draft, input: &[u8], output: &mut [u8]) {
-    answered(call, name, draft, input, output);
-    row(output);
+fn shown(call: Call, letter: u8, input: &[u8], output: &mut [u8]) {
+    answered(call, letter, input, output);
+    bytes(output);
     lines::text(b"\n");
 }
 
-// With room for so many frames, eight at most.
-fn burst(call: Call, name: &[u8], draft: cards::Draft, input: &[u8], room: usize) {
+// What a row feeds is the letter of a card, the room for output frames, eight at most, and the input frames.
+pub(crate) fn row(call: Call, fed: &[u8]) {
     let mut output = [BEFORE; 8];
-    let end = bits::at_most(room, 8);
-    shown(call, name, draft, input, &mut output[..end]);
-}
-
-pub(crate) fn sent(name: &[u8], draft: cards::Draft, input: &[u8], room: usize) {
-    burst(Call::Send, name, draft, input, room);
-}
-
-pub(crate) fn received(name: &[u8], draft: cards::Draft, input: &[u8], room: usize) {
-    burst(Call::Receive, name, draft, input, room);
+    let room = bits::at_most(bits::size(tables::byte(fed, 1)), 8);
+    let input = tables::from(fed, 2);
+    shown(call, tables::byte(fed, 0), input, &mut output[..room]);
 }

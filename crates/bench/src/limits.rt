@@ -2,12 +2,9 @@
 // calls, and `rt try` gives up on them, so that with `limits::cases()` left out it still tries the rest.
 use crate::bursts;
 use crate::bursts::Call;
-use crate::cards;
-use crate::levels;
 use crate::lines;
-use crate::receiving;
-use crate::sending;
-use crate::streams;
+use crate::tables;
+use crate::tables::Kind;
 use encoder::Answer;
 use encoder::Session;
 ghost use mathlib.Core.Path.{_≡_};
@@ -20,16 +17,25 @@ pub(crate) fn cases() {
     received_bursts();
 }
 
+// A count of frames by the sign that a row has for it: as many as a stream may have, one fewer, or one more.
+pub(crate) fn count(sign: u8) -> usize {
+    match sign {
+        b'-' => 1048575,
+        b'+' => 1048577,
+        _ => 1048576,
+    }
+}
+
 // What a run of sending calls comes to.
 struct Run {
     session: Session,
-    frames: u32,
+    frames: u64,
 }
 
 // The information 1 so many times.
-fn ones(s: Session, times: u32) -> Run {
+fn ones(s: Session, times: usize) -> Run {
     let mut session = s;
-    let mut frames: u32 = 0;
+    let mut frames: u64 = 0;
     for _ in 0..times {
         let sent = encoder::send(session, 1);
         session = sent.session;
@@ -41,40 +47,28 @@ fn ones(s: Session, times: u32) -> Run {
     Run { session, frames }
 }
 
-fn send_ones(s: Session, times: u32) -> Session {
+pub(crate) fn send_ones(s: Session, times: usize) -> Session {
     let run = ones(s, times);
-    lines::text(b", ");
-    lines::number(run.frames as u64);
+    lines::counted(b", ", run.frames);
     lines::text(b" frames");
     run.session
 }
 
 // Room for the tail is kept; 16 comes before 15, and 15 before 11.
 fn sending_sessions() {
-    let p = sending::opened(
-        b"P sends 1 for 1048575 times, then 1, 2, two tail frames and 1",
-        cards::p(),
+    tables::each(
+        Kind::Sending,
+        b"P sends 1 for 1048575 times, then 1, 2, two tail frames and 1|P-\x01\x02tt\x01;\
+          m 0 sends 1 for 1048576 times, then 1, 2 and a tail frame|M=\x01\x02t;",
     );
-    let full = sending::send_each(send_ones(p, 1048575), b"\x01\x02");
-    sending::send(sending::tail(sending::tail(full)), 1);
-    lines::text(b"\n");
-    let m0 = sending::opened(
-        b"m 0 sends 1 for 1048576 times, then 1, 2 and a tail frame",
-        streams::repetition(),
-    );
-    sending::tail(sending::send_each(send_ones(m0, 1048576), b"\x01\x02"));
-    lines::text(b"\n");
 }
 
 // 14 comes before 15, and 15 before 11 and 12.
 fn receiving_session() {
-    let p = receiving::opened(
-        b"P receives 0 for 1048576 times, then 0, 4 and NaN, then 0 under card number 8",
-        cards::p(),
+    tables::each(
+        Kind::Receiving,
+        b"P receives 0 for 1048576 times, then 0, 4 and NaN, then 0 under card number 8|P=\x00\x04n 8 \x00;",
     );
-    let full = receiving::receive_each(receiving::receive_zeros(p, 1048576), b"\x00\x04");
-    receiving::receive_under(levels::receive_nan(full), 8, 0);
-    lines::text(b"\n");
 }
 
 // Frames all alike, one more than a stream may have.
@@ -91,78 +85,33 @@ fn room(byte: u8) -> [u8; 1048576]
     [byte; 1048576]
 }
 
-// So many frames all alike.
-fn burst(call: Call, name: &[u8], draft: cards::Draft, frame: u8, count: usize) {
-    let frames = too_many(frame);
+// What a row feeds is the letter of a card, the sign of a count, and the frame that is given so many times.
+pub(crate) fn row(call: Call, fed: &[u8]) {
+    let frames = too_many(tables::byte(fed, 2));
     let mut output = room(bursts::BEFORE);
-    bursts::answered(call, name, draft, lines::front(&frames, count), &mut output);
+    let input = lines::front(&frames, count(tables::byte(fed, 1)));
+    bursts::answered(call, tables::byte(fed, 0), input, &mut output);
     lines::text(b"\n");
 }
 
 // Information and tail together; 15 comes before 13.
 fn sent_bursts() {
-    let p = cards::p();
-    let m0 = streams::repetition();
-    burst(
-        Call::Send,
-        b"P sends a burst of 1048575 frames",
-        p,
-        1,
-        1048575,
-    );
-    burst(
-        Call::Send,
-        b"P sends a burst of 1048576 frames",
-        p,
-        1,
-        1048576,
-    );
-    burst(
-        Call::Send,
-        b"m 0 sends a burst of 1048576 frames",
-        m0,
-        1,
-        1048576,
-    );
-    burst(
-        Call::Send,
-        b"m 0 sends a burst of 1048577 frames",
-        m0,
-        1,
-        1048577,
+    tables::each(
+        Kind::LongBurst(Call::Send),
+        b"P sends a burst of 1048575 frames|P-\x01;\
+          P sends a burst of 1048576 frames|P=\x01;\
+          m 0 sends a burst of 1048576 frames|M=\x01;\
+          m 0 sends a burst of 1048577 frames|M+\x01;",
     );
 }
 
 // 15 comes before 13.
 fn received_bursts() {
-    let p = cards::p();
-    let m0 = streams::repetition();
-    burst(
-        Call::Receive,
-        b"P receives a burst of 1048576 frames",
-        p,
-        0,
-        1048576,
-    );
-    burst(
-        Call::Receive,
-        b"P receives a burst of 1048577 frames",
-        p,
-        0,
-        1048577,
-    );
-    burst(
-        Call::Receive,
-        b"m 0 receives a burst of 1048576 frames",
-        m0,
-        0,
-        1048576,
-    );
-    burst(
-        Call::Receive,
-        b"m 0 receives a burst of 1048577 frames",
-        m0,
-        0,
-        1048577,
+    tables::each(
+        Kind::LongBurst(Call::Receive),
+        b"P receives a burst of 1048576 frames|P=\x00;\
+          P receives a burst of 1048577 frames|P+\x00;\
+          m 0 receives a burst of 1048576 frames|M=\x00;\
+          m 0 receives a burst of 1048577 frames|M+\x00;",
     );
 }

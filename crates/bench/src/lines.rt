@@ -1,5 +1,5 @@
 // The lines that the bench writes: what a case is, a colon, and what it came to.
-use crate::cards;
+use crate::drafts::Draft;
 use libc::STDOUT_FILENO;
 
 pub(crate) fn text(words: &[u8]) {
@@ -10,39 +10,42 @@ pub(crate) fn number(n: u64) {
     io::print_decimal(STDOUT_FILENO, n);
 }
 
-pub(crate) fn refused(refusal: card::Refusal) {
-    text(b"refused ");
-    number(card::refusal_number(refusal) as u64);
+pub(crate) fn counted(words: &[u8], n: u64) {
+    text(words);
+    number(n);
+}
+
+pub(crate) fn refused(words: &[u8], refusal: card::Refusal) {
+    counted(words, card::refusal_number(refusal) as u64);
 }
 
 pub(crate) fn verdict(v: card::Verdict) {
     match v {
-        card::Verdict::Accepted => text(b"accepted"),
+        card::Verdict::Accepted => text(b": accepted"),
         card::Verdict::Refused { refusal, offset } => {
-            refused(refusal);
-            text(b" at ");
-            number(offset as u64);
+            refused(b": refused ", refusal);
+            counted(b" at ", offset as u64);
         }
     }
 }
 
+// The bytes from a start to an end, as far as there are any.
+pub(crate) fn part(bytes: &[u8], start: usize, end: usize) -> &[u8] {
+    let last = bits::at_most(end, bytes.len());
+    let first = bits::at_most(start, last);
+    &bytes[first..last]
+}
+
 // The first bytes, or all where there are fewer.
 pub(crate) fn front(bytes: &[u8], len: usize) -> &[u8] {
-    let end = bits::at_most(len, bytes.len());
-    &bytes[..end]
+    part(bytes, 0, len)
 }
 
 // The end of a line: what reading the card comes to.
-pub(crate) fn outcome(draft: cards::Draft) {
+pub(crate) fn outcome(draft: Draft) {
     let bytes = draft.bytes;
     let read = card::read_card(front(&bytes, draft.len));
     let v = read.verdict;
-    text(b": ");
     verdict(v);
     text(b"\n");
-}
-
-pub(crate) fn reading(name: &[u8], draft: cards::Draft) {
-    text(name);
-    outcome(draft);
 }

@@ -1,7 +1,8 @@
 // The cases of the listing: document 01, "The listing".
-use crate::cards;
+use crate::drafts;
 use crate::lines;
-use crate::streams;
+use crate::tables;
+use crate::tables::Kind;
 use listing::LISTING_ROOM;
 use listing::LONGEST_INPUT;
 ghost use mathlib.Core.Path.{_≡_};
@@ -17,54 +18,53 @@ const SHOWN: usize = 100;
 const LAST_LINE: usize = 10;
 
 pub(crate) fn cases() {
-    listed(b"the empty input", b"");
-    listed(b"an input of one byte", b"\x14");
-    input(b"P and no frames", 20, cards::p(), b"");
-    input(
-        b"the first 19 bytes of P, 20 stated",
-        20,
-        cards::cut(cards::p(), 19),
-        b"",
-    );
-    input(b"P, 2048 bytes stated", 2048, cards::p(), b"");
-    input(b"P, 2049 bytes stated", 2049, cards::p(), b"");
-    input(
-        b"P and the frames 3, 3, 3, 2",
-        20,
-        cards::p(),
-        b"\x03\x03\x03\x02",
-    );
-    input(
-        b"P and the frames 3, 3, 4, 2",
-        20,
-        cards::p(),
-        b"\x03\x03\x04\x02",
-    );
-    input(
-        b"k 4, n 8 and the frames 16, 2, 187, 240",
-        83,
-        streams::all_eight(),
-        b"\x10\x02\xbb\xf0",
-    );
-    let frames = [0u8; 32769];
-    input(
-        b"P and 32768 frames",
-        20,
-        cards::p(),
-        lines::front(&frames, 32768),
-    );
-    input(b"P and 32769 frames", 20, cards::p(), &frames);
+    inputs();
+    // As long as an input that is listed may be, and longer.
+    long_input(32768);
+    long_input(32769);
 }
 
-// An input by its parts: the stated length of the card, the card, the frames.
-fn input(name: &[u8], stated: u16, draft: cards::Draft, frames: &[u8]) {
+// What a row feeds is the input by its parts: the two bytes of the stated length, the letter of the card, the frames. The first two end
+// before they have a card.
+fn inputs() {
+    tables::each(
+        Kind::Listing,
+        b"the empty input|;\
+          an input of one byte|\x14;\
+          P and no frames|\x14\x00P;\
+          the first 19 bytes of P, 20 stated|\x14\x00p;\
+          P, 2048 bytes stated|\x00\x08P;\
+          P, 2049 bytes stated|\x01\x08P;\
+          P and the frames 3, 3, 3, 2|\x14\x00P\x03\x03\x03\x02;\
+          P and the frames 3, 3, 4, 2|\x14\x00P\x03\x03\x04\x02;\
+          k 4, n 8 and the frames 16, 2, 187, 240|\x53\x00E\x10\x02\xbb\xf0;",
+    );
+}
+
+pub(crate) fn row(fed: &[u8]) {
+    input(
+        lines::front(fed, 2),
+        tables::byte(fed, 2),
+        tables::from(fed, 3),
+    );
+}
+
+// P with so many frames, 32,769 at most.
+fn long_input(count: usize) {
+    lines::counted(b"P and ", count as u64);
+    lines::text(b" frames");
+    let frames = [0u8; 32769];
+    input(b"\x14\x00", b'P', lines::front(&frames, count));
+}
+
+fn input(length: &[u8], letter: u8, frames: &[u8]) {
     let mut whole = [0u8; ROOM];
-    let length = [(stated % 256) as u8, (stated / 256) as u8];
-    let after_length = put(&mut whole, 0, &length);
+    let after_length = put(&mut whole, 0, length);
+    let draft = drafts::named(letter);
     let bytes = draft.bytes;
     let after_card = put(&mut whole, after_length, lines::front(&bytes, draft.len));
     let end = put(&mut whole, after_card, frames);
-    listed(name, lines::front(&whole, end));
+    listed(lines::front(&whole, end));
 }
 
 // One byte more, if there is room; where it ends.
@@ -89,10 +89,9 @@ fn put(whole: &mut [u8; ROOM], start: usize, bytes: &[u8]) -> usize
     end
 }
 
-fn listed(name: &[u8], input: &[u8]) {
+fn listed(input: &[u8]) {
     let mut output = [0u8; LISTING_ROOM];
     let count = listing::list(input, &mut output);
-    lines::text(name);
     lines::text(b", listed:\n");
     shown(&output[..count]);
 }

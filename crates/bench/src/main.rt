@@ -1,17 +1,15 @@
 // The bench: the cases of document 01, "Cards on the bench". The starred ones are a theorem over the definitions; all of them run here
 // through the code, and the lines are held to `stdout`.
 mod bursts;
-mod cards;
+mod drafts;
 mod levels;
 mod limits;
 mod lines;
 mod listed;
-mod longest;
 mod reading;
 mod receiving;
 mod sending;
-mod sixteen;
-mod streams;
+mod tables;
 
 ghost use Rattle.bench.specs.Rows.{Rows};
 

@@ -1,104 +1,98 @@
 // The cases of card reading: document 01, "Cards on the bench" and "Refused because of the input", 1 to 10.
-use crate::cards;
+use crate::drafts;
+use crate::drafts::Draft;
 use crate::lines;
-use crate::longest;
-use crate::sixteen;
+use crate::tables;
+use crate::tables::Kind;
 
 pub(crate) fn cases() {
     starred();
-    memory();
-    stream_counts();
-    maps();
-    masks();
-    check_counts();
+    memory_and_streams();
+    maps_masks_and_counts();
     cuts();
     lengths();
 }
 
+// What a row feeds is the letter of a card, and after it nothing, a byte to add, or the offset and the value of a byte to change; or, of a
+// plain card, any letter, k, n, and the two bytes of the generator map.
+pub(crate) fn drafted(fed: &[u8]) -> Draft {
+    let card = drafts::named(tables::byte(fed, 0));
+    let one = tables::byte(fed, 1);
+    let two = tables::byte(fed, 2);
+    match fed.len() {
+        2 => drafts::byte(card, one),
+        3 => drafts::changed(card, bits::size(one), two),
+        5 => drafts::plain(one, two, tables::byte(fed, 3), tables::byte(fed, 4)),
+        _ => card,
+    }
+}
+
 // The starred cases, the rows of `specs/Rows.antt`.
 fn starred() {
-    lines::reading(b"P", cards::p());
-    lines::reading(b"Q", cards::q());
-    lines::reading(b"R", cards::r(34));
-    lines::reading(b"R with s5 for s1 + s5", cards::r(32));
-    lines::reading(b"Q with s2 as a fourth check", cards::q_with_s2());
-    lines::reading(b"T", cards::t(2));
-    lines::reading(b"T with s0, s2 for stream 1", cards::t(4));
-    lines::reading(b"the first 19 bytes of P", cards::cut(cards::p(), 19));
-    lines::reading(b"P with a zero byte added", cards::byte(cards::p(), 0));
-    lines::reading(
-        b"Q with s0 again as its third check",
-        cards::q_with_s0_again(),
+    tables::each(
+        Kind::Card,
+        b"P|P;\
+          Q|Q;\
+          R|R;\
+          R with s5 for s1 + s5|r;\
+          Q with s2 as a fourth check|s;\
+          T|T;\
+          T with s0, s2 for stream 1|t;\
+          the first 19 bytes of P|p;\
+          P with a zero byte added|P\x00;\
+          Q with s0 again as its third check|q;",
     );
 }
 
-// P with one byte changed.
-fn changed(name: &[u8], offset: usize, value: u8) {
-    lines::reading(name, cards::changed(cards::p(), offset, value));
+// m is byte 2 of P. Then k at both ends, and n at both ends for each k.
+fn memory_and_streams() {
+    tables::each(
+        Kind::Card,
+        b"P with m 31|P\x02\x1f;\
+          P with m 31 and terms 0 and 31|F;\
+          P with m 32|P\x02\x20;\
+          k 0, n 2|K\x00\x02\x01\x00;\
+          k 5, n 8|K\x05\x08\x01\x00;\
+          k 1, n 1|K\x01\x01\x01\x00;\
+          k 1, n 2|K\x01\x02\x01\x00;\
+          k 1, n 8|K\x01\x08\x01\x00;\
+          k 1, n 9|K\x01\x09\x01\x00;\
+          k 2, n 2|K\x02\x02\x03\x00;\
+          k 2, n 3|K\x02\x03\x03\x00;\
+          k 2, n 8|K\x02\x08\x41\x00;\
+          k 2, n 9|K\x02\x09\x41\x00;\
+          k 3, n 3|K\x03\x03\x07\x00;\
+          k 3, n 4|K\x03\x04\x07\x00;\
+          k 3, n 8|K\x03\x08\x21\x04;\
+          k 3, n 9|K\x03\x09\x21\x04;\
+          k 4, n 4|K\x04\x04\x0f\x00;\
+          k 4, n 5|K\x04\x05\x0f\x00;\
+          k 4, n 8|K\x04\x08\x11\x11;\
+          k 4, n 9|K\x04\x09\x11\x11;\
+          k 2, n by default|n;",
+    );
 }
 
-// m is byte 2 of P.
-fn memory() {
-    changed(b"P with m 31", 2, 31);
-    lines::reading(b"P with m 31 and terms 0 and 31", cards::p_reaching_31());
-    changed(b"P with m 32", 2, 32);
-}
-
-// k at both ends, and n at both ends for each k.
-fn stream_counts() {
-    plain(0, 2, 1);
-    plain(5, 8, 1);
-    plain(1, 1, 1);
-    plain(1, 2, 1);
-    plain(1, 8, 1);
-    plain(1, 9, 1);
-    plain(2, 2, 3);
-    plain(2, 3, 3);
-    plain(2, 8, 0x41);
-    plain(2, 9, 0x41);
-    plain(3, 3, 7);
-    plain(3, 4, 7);
-    plain(3, 8, 0x421);
-    plain(3, 9, 0x421);
-    plain(4, 4, 0xf);
-    plain(4, 5, 0xf);
-    plain(4, 8, 0x1111);
-    plain(4, 9, 0x1111);
-    lines::reading(b"k 2, n by default", cards::of(b"\x01\x01\x02"));
-}
-
-fn plain(k: u8, n: u8, map: u16) {
-    lines::text(b"k ");
-    lines::number(k as u64);
-    lines::text(b", n ");
-    lines::number(n as u64);
-    lines::outcome(cards::plain(k, n, map));
-}
-
-// P's maps are byte 0, bytes 3 and 4 for its one generator, and byte 10 for the one parity stream of its first check.
-fn maps() {
-    changed(b"P with bit 2 of byte 0", 0, 4);
-    changed(b"P with bit 7 of byte 0", 0, 128);
-    changed(b"P with bit 1 of its generator map", 3, 3);
-    changed(b"P with bit 15 of its generator map", 4, 128);
-    changed(b"P with bit 1 of a check's map", 10, 3);
-    lines::reading(b"P with no generator", cards::p_without_generator());
-    changed(b"P with a check whose map is zero", 10, 0);
-}
-
-// P's generator begins at byte 5, the mask of its first check at byte 11; m is 1.
-fn masks() {
-    changed(b"P with a generator that is zero", 5, 0);
-    changed(b"P with a generator that has a bit above m", 5, 7);
-    changed(b"P with a check's mask that is zero", 11, 0);
-    changed(b"P with a check's mask that has a bit above m", 11, 5);
-}
-
-// J is byte 34 of the card with sixteen checks.
-fn check_counts() {
-    lines::reading(b"J 0", sixteen::self_orthogonal(0));
-    lines::reading(b"J 16", sixteen::self_orthogonal(16));
-    lines::reading(b"J 17", sixteen::self_orthogonal(17));
+// P's maps are byte 0, bytes 3 and 4 for its one generator, and byte 10 for the one parity stream of its first check. Its generator begins
+// at byte 5, the mask of its first check at byte 11; m is 1. J is byte 34 of the card with sixteen checks.
+fn maps_masks_and_counts() {
+    tables::each(
+        Kind::Card,
+        b"P with bit 2 of byte 0|P\x00\x04;\
+          P with bit 7 of byte 0|P\x00\x80;\
+          P with bit 1 of its generator map|P\x03\x03;\
+          P with bit 15 of its generator map|P\x04\x80;\
+          P with bit 1 of a check's map|P\x0a\x03;\
+          P with no generator|g;\
+          P with a check whose map is zero|P\x0a\x00;\
+          P with a generator that is zero|P\x05\x00;\
+          P with a generator that has a bit above m|P\x05\x07;\
+          P with a check's mask that is zero|P\x0b\x00;\
+          P with a check's mask that has a bit above m|P\x0b\x05;\
+          J 0|S\x22\x00;\
+          J 16|S;\
+          J 17|S\x22\x11;",
+    );
 }
 
 // P ends at byte 20.
@@ -109,16 +103,17 @@ fn cuts() {
 }
 
 fn cut(len: usize) {
-    lines::text(b"P cut at byte ");
-    lines::number(len as u64);
-    lines::outcome(cards::cut(cards::p(), len));
+    lines::counted(b"P cut at byte ", len as u64);
+    lines::outcome(drafts::cut(drafts::named(b'P'), len));
 }
 
 // "No accepted card has more than 1,163 bytes", and one has as many.
 fn lengths() {
-    lines::reading(b"no bytes", cards::empty());
-    let card = longest::longest();
-    lines::reading(b"1,163 bytes", card);
-    lines::reading(b"its first 1,162 bytes", cards::cut(card, 1162));
-    lines::reading(b"a zero byte added to it", cards::byte(card, 0));
+    tables::each(
+        Kind::Card,
+        b"no bytes|;\
+          1,163 bytes|L;\
+          its first 1,162 bytes|l;\
+          a zero byte added to it|L\x00;",
+    );
 }

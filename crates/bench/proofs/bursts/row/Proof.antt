@@ -1,69 +1,47 @@
--- `bench::bursts::row` is safe and ends. Assumes nothing.
-use Prim.Native.Nat.{_≤_, _-_}
-use mathlib.Core.Path.{_≡_}
-use lib.ListN.{length}
+-- `bench::bursts::row` is safe: the room is at most the length. Assumes nothing.
 use native.Mathlib.Omega.{arith}
+use lib.ListN.{length-take}
 use borrow.Author.Needs.{needs}
 use Rattle.bench.proofs.bursts.row.Statement.{statement}
 use Rattle.bench.proofs.bursts.row.Tie as tie
 
-abbrev Inv-loop : tie.InvT-loop
-Inv-loop bytes i₀ t4 i-end i = (i ≤ i-end) × (i-end ≡ length bytes)
+byte-requires : tie.Need-byte-requires
+byte-requires c κs = search needs
 
-abbrev μ-loop : tie.MeasureT-loop
-μ-loop bytes i₀ t4 i-end i = i-end - i
+size-requires : tie.Need-size-requires
+size-requires c κs = search needs
 
-slice-aggregate-text : tie.Need-slice-aggregate-text Inv-loop μ-loop
-slice-aggregate-text c = search needs
+at-most-requires : tie.Need-at-most-requires
+at-most-requires c κs = search needs
 
-text-requires : tie.Need-text-requires Inv-loop μ-loop
-text-requires c κs = search needs
+from-requires : tie.Need-from-requires
+from-requires c κs = search needs
 
-loop-holds : tie.Need-loop-holds Inv-loop μ-loop
-loop-holds c = search needs
+byte-requires-2 : tie.Need-byte-requires-2
+byte-requires-2 c κs = search needs
 
-slice-aggregate-text-2 : tie.Need-slice-aggregate-text-2 Inv-loop μ-loop
-slice-aggregate-text-2 c = search needs
+array-borrow-prefix-output : tie.Need-array-borrow-prefix-output
+array-borrow-prefix-output c = search needs
 
-text-requires-2 : tie.Need-text-requires-2 Inv-loop μ-loop
-text-requires-2 c κs = search needs
+slice-aggregate-shown : tie.Need-slice-aggregate-shown
+slice-aggregate-shown c = simp length-take (omega arith)
 
-shared-slice-read-number : tie.Need-shared-slice-read-number Inv-loop μ-loop
-shared-slice-read-number c = search needs
+shown-requires : tie.Need-shown-requires
+shown-requires c κs = search needs
 
-cast-number : tie.Need-cast-number Inv-loop μ-loop
-cast-number c = record { fits = omega (arith, c .shared-slice-known2 .given (c .before .before .before .before .loop .i)) }
-
-number-requires : tie.Need-number-requires Inv-loop μ-loop
-number-requires c κs = search needs
-
-add-i : tie.Need-add-i Inv-loop μ-loop
-add-i c = search needs
-
-loop-less : tie.Need-loop-less Inv-loop μ-loop
-loop-less c = search needs
-
-loop-again : tie.Need-loop-again Inv-loop μ-loop
-loop-again c = search needs
-
-returns : tie.Need-returns Inv-loop μ-loop
+returns : tie.Need-returns
 returns c = search needs
 
 pub row-spec : {M : Type 1} → statement M
 row-spec =
     tie.close
     (tie.spec
-    Inv-loop
-    μ-loop
-    slice-aggregate-text
-    text-requires
-    loop-holds
-    slice-aggregate-text-2
-    text-requires-2
-    shared-slice-read-number
-    cast-number
-    number-requires
-    add-i
-    loop-less
-    loop-again
+    byte-requires
+    size-requires
+    at-most-requires
+    from-requires
+    byte-requires-2
+    array-borrow-prefix-output
+    slice-aggregate-shown
+    shown-requires
     returns)

@@ -7,20 +7,17 @@ use Rattle.bench.proofs.listed.listed.Tie as tie
 list-requires : tie.Need-list-requires
 list-requires c κs = search needs
 
-text-requires : tie.Need-text-requires
-text-requires c κs = search needs
-
 slice-aggregate-text : tie.Need-slice-aggregate-text
 slice-aggregate-text c = search needs
 
-text-requires-2 : tie.Need-text-requires-2
-text-requires-2 c κs = search needs
+text-requires : tie.Need-text-requires
+text-requires c κs = search needs
 
 array-share-prefix-output : tie.Need-array-share-prefix-output
-array-share-prefix-output c = listed-within (c .before .before .before .list .ensures)
+array-share-prefix-output c = listed-within (c .before .before .list .ensures)
 
 slice-aggregate-shown : tie.Need-slice-aggregate-shown
-slice-aggregate-shown c = listed-length (c .before .before .before .before .list .ensures)
+slice-aggregate-shown c = listed-length (c .before .before .before .list .ensures)
 
 shown-requires : tie.Need-shown-requires
 shown-requires c κs = search needs
@@ -33,9 +30,8 @@ listed-spec =
     tie.close
     (tie.spec
     list-requires
-    text-requires
     slice-aggregate-text
-    text-requires-2
+    text-requires
     array-share-prefix-output
     slice-aggregate-shown
     shown-requires

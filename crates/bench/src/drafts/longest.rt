@@ -3,7 +3,8 @@
 // It is a code with one information and one parity stream, four of its frames taken as one: what lies r frames after information stream i
 // is at offset (i + r) / 4 of parity stream (i + r) % 4. So the same sums of syndromes are the checks of all four streams. The generator's
 // terms and the checks were found by a random search: annealing over the terms, and over the check that each syndrome goes to.
-use crate::cards;
+use crate::drafts;
+use crate::drafts::Draft;
 
 // Of what lies after information stream i, that on parity stream j, as a mask.
 fn gathered(after: &[u8], i: u8, j: usize) -> u32 {
@@ -18,15 +19,15 @@ fn gathered(after: &[u8], i: u8, j: usize) -> u32 {
 }
 
 // The masks of the four parity streams.
-fn masks(draft: cards::Draft, after: &[u8], i: u8) -> cards::Draft {
-    let one = cards::mask(draft, gathered(after, i, 0));
-    let two = cards::mask(one, gathered(after, i, 1));
-    let three = cards::mask(two, gathered(after, i, 2));
-    cards::mask(three, gathered(after, i, 3))
+fn masks(draft: Draft, after: &[u8], i: u8) -> Draft {
+    let one = drafts::mask(draft, gathered(after, i, 0));
+    let two = drafts::mask(one, gathered(after, i, 1));
+    let three = drafts::mask(two, gathered(after, i, 2));
+    drafts::mask(three, gathered(after, i, 3))
 }
 
 // The generators of information stream i, by the terms of the one generator.
-fn generators(draft: cards::Draft, i: u8) -> cards::Draft {
+fn generators(draft: Draft, i: u8) -> Draft {
     masks(
         draft,
         &[
@@ -52,11 +53,11 @@ fn generators(draft: cards::Draft, i: u8) -> cards::Draft {
 }
 
 // A check over all four parity streams.
-fn check(draft: cards::Draft, after: &[u8], i: u8) -> cards::Draft {
-    masks(cards::byte(draft, 15), after, i)
+fn check(draft: Draft, after: &[u8], i: u8) -> Draft {
+    masks(drafts::byte(draft, 15), after, i)
 }
 
-fn first_checks(draft: cards::Draft, i: u8) -> cards::Draft {
+fn first_checks(draft: Draft, i: u8) -> Draft {
     let one = check(draft, &[0, 23, 54, 81], i);
     let two = check(one, &[15, 40, 53, 58], i);
     let three = check(two, &[1, 12, 59, 70], i);
@@ -67,7 +68,7 @@ fn first_checks(draft: cards::Draft, i: u8) -> cards::Draft {
     check(seven, &[2, 19, 27, 45, 84, 89, 97, 101], i)
 }
 
-fn last_checks(draft: cards::Draft, i: u8) -> cards::Draft {
+fn last_checks(draft: Draft, i: u8) -> Draft {
     let one = check(draft, &[13, 34, 75, 104], i);
     let two = check(one, &[7, 11, 38, 50, 69, 79, 83, 108], i);
     let three = check(two, &[5, 14, 18, 39, 80, 109], i);
@@ -103,12 +104,12 @@ fn last_checks(draft: cards::Draft, i: u8) -> cards::Draft {
 }
 
 // J and the checks of an information stream.
-fn stream(draft: cards::Draft, i: u8) -> cards::Draft {
-    last_checks(first_checks(cards::byte(draft, 16), i), i)
+fn stream(draft: Draft, i: u8) -> Draft {
+    last_checks(first_checks(drafts::byte(draft, 16), i), i)
 }
 
-pub(crate) fn longest() -> cards::Draft {
-    let head = cards::of(b"\x03\x63\x04\x08\x1f\xff\xff");
+pub(crate) fn longest() -> Draft {
+    let head = drafts::of(b"\x03\x63\x04\x08\x1f\xff\xff");
     let code = generators(generators(generators(generators(head, 0), 1), 2), 3);
     stream(stream(stream(stream(code, 0), 1), 2), 3)
 }

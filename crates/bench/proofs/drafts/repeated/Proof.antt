@@ -1,8 +1,8 @@
--- `bench::cards::repeated` is safe and ends. Assumes nothing.
+-- `drafts::repeated` is safe and ends. Assumes nothing.
 use Prim.Native.Nat.{_≤_, _-_}
 use borrow.Author.Needs.{needs}
-use Rattle.bench.proofs.cards.repeated.Statement.{statement}
-use Rattle.bench.proofs.cards.repeated.Tie as tie
+use Rattle.bench.proofs.drafts.repeated.Statement.{statement}
+use Rattle.bench.proofs.drafts.repeated.Tie as tie
 
 abbrev Inv-loop : tie.InvT-loop
 Inv-loop values times drafted₀ counter₀ drafted counter = counter ≤ times

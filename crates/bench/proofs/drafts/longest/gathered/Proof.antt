@@ -1,10 +1,10 @@
--- `bench::longest::gathered` is safe and ends. Assumes nothing.
+-- `drafts::longest::gathered` is safe and ends. Assumes nothing.
 use Prim.Native.Nat.{_≤_, _-_}
 use mathlib.Core.Path.{_≡_}
 use borrow.Author.Needs.{needs}
 use lib.ListN.{length}
-use Rattle.bench.proofs.longest.gathered.Statement.{statement}
-use Rattle.bench.proofs.longest.gathered.Tie as tie
+use Rattle.bench.proofs.drafts.longest.gathered.Statement.{statement}
+use Rattle.bench.proofs.drafts.longest.gathered.Tie as tie
 
 abbrev Inv-loop : tie.InvT-loop
 Inv-loop after i j m₀ at₀ at-end m at = (at ≤ at-end) × (at-end ≡ length after)

@@ -1,25 +1,25 @@
--- `bench::sending::send_each` is safe and ends. Assumes nothing.
+-- `bench::sending::steps` is safe and ends. Assumes nothing.
 use Prim.Native.Nat.{_≤_, _-_}
 use mathlib.Core.Path.{_≡_}
 use lib.ListN.{length}
 use borrow.Author.Needs.{needs}
-use Rattle.bench.proofs.sending.send_each.Statement.{statement}
-use Rattle.bench.proofs.sending.send_each.Tie as tie
+use Rattle.bench.proofs.sending.steps.Statement.{statement}
+use Rattle.bench.proofs.sending.steps.Tie as tie
 
 abbrev Inv-loop : tie.InvT-loop
-Inv-loop info session₀ i₀ i-end session i = (i ≤ i-end) × (i-end ≡ length info)
+Inv-loop fed session₀ i₀ i-end session i = (i ≤ i-end) × (i-end ≡ length fed)
 
 abbrev μ-loop : tie.MeasureT-loop
-μ-loop info session₀ i₀ i-end session i = i-end - i
+μ-loop fed session₀ i₀ i-end session i = i-end - i
 
 loop-holds : tie.Need-loop-holds Inv-loop μ-loop
 loop-holds c = search needs
 
-shared-slice-read-send : tie.Need-shared-slice-read-send Inv-loop μ-loop
-shared-slice-read-send c = search needs
+shared-slice-read-step : tie.Need-shared-slice-read-step Inv-loop μ-loop
+shared-slice-read-step c = search needs
 
-send-requires : tie.Need-send-requires Inv-loop μ-loop
-send-requires c κs = search needs
+step-requires : tie.Need-step-requires Inv-loop μ-loop
+step-requires c κs = search needs
 
 add-i : tie.Need-add-i Inv-loop μ-loop
 add-i c = search needs
@@ -33,15 +33,15 @@ loop-again c = search needs
 returns : tie.Need-returns Inv-loop μ-loop
 returns c = search needs
 
-pub send-each-spec : {M : Type 1} → statement M
-send-each-spec =
+pub steps-spec : {M : Type 1} → statement M
+steps-spec =
     tie.close
     (tie.spec
     Inv-loop
     μ-loop
     loop-holds
-    shared-slice-read-send
-    send-requires
+    shared-slice-read-step
+    step-requires
     add-i
     loop-less
     loop-again

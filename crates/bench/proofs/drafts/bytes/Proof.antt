@@ -1,10 +1,10 @@
--- `bench::cards::bytes` is safe and ends. Assumes nothing.
+-- `drafts::bytes` is safe and ends. Assumes nothing.
 use Prim.Native.Nat.{_≤_, _-_}
 use mathlib.Core.Path.{_≡_}
 use borrow.Author.Needs.{needs}
 use lib.ListN.{length}
-use Rattle.bench.proofs.cards.bytes.Statement.{statement}
-use Rattle.bench.proofs.cards.bytes.Tie as tie
+use Rattle.bench.proofs.drafts.bytes.Statement.{statement}
+use Rattle.bench.proofs.drafts.bytes.Tie as tie
 
 abbrev Inv-loop : tie.InvT-loop
 Inv-loop values drafted₀ i₀ i-end drafted i = (i ≤ i-end) × (i-end ≡ length values)

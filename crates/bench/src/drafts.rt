@@ -1,0 +1,121 @@
+// Cards for the bench, drafted byte by byte: those of document 01, "Cards on the bench", and those that its other cases ask for.
+mod document;
+mod longest;
+mod sixteen;
+mod streams;
+
+// What a draft holds at most; the longest card has 1,163 bytes.
+pub(crate) const ROOM: usize = 1200;
+
+// A card is the first `len` of the bytes.
+pub(crate) struct Draft {
+    pub bytes: [u8; ROOM],
+    pub len: usize,
+}
+
+// A card by the letter that the bench's rows have for it; a small letter is for a card that is not accepted. Any other byte names the card
+// of no bytes.
+pub(crate) fn named(letter: u8) -> Draft {
+    match letter {
+        b'P' => document::p(),
+        b'Q' => document::q(),
+        b'R' => document::r(34),
+        b'T' => document::t(2),
+        // P and the longest card without their last bytes.
+        b'p' => cut(document::p(), 19),
+        b'l' => cut(longest::longest(), 1162),
+        // Q with its first check again for its third, and with s2 as a fourth.
+        b'q' => document::q_with_s0_again(),
+        b's' => document::q_with_s2(),
+        // R with s5 for s1 + s5, T with s2 for s1.
+        b'r' => document::r(32),
+        b't' => document::t(4),
+        // P with m 31 and its terms far apart; P with no generator.
+        b'F' => document::p_reaching_31(),
+        b'g' => document::p_without_generator(),
+        // k 2 and no n: by default n is 2.
+        b'n' => of(b"\x01\x01\x02"),
+        // No memory; all eight streams; sixteen checks; the most bytes.
+        b'M' => streams::repetition(),
+        b'E' => streams::all_eight(),
+        b'S' => sixteen::self_orthogonal(),
+        b'L' => longest::longest(),
+        _ => empty(),
+    }
+}
+
+fn empty() -> Draft {
+    Draft {
+        bytes: [0u8; ROOM],
+        len: 0,
+    }
+}
+
+// One byte more; a full draft stays as it is.
+pub(crate) fn byte(mut draft: Draft, value: u8) -> Draft {
+    let at = draft.len;
+    if at < ROOM {
+        draft.bytes[at] = value;
+        draft.len = at + 1;
+    }
+    draft
+}
+
+// The byte at an offset changed.
+pub(crate) fn changed(mut draft: Draft, offset: usize, value: u8) -> Draft {
+    if offset < ROOM {
+        draft.bytes[offset] = value;
+    }
+    draft
+}
+
+// Only the first bytes.
+pub(crate) fn cut(mut draft: Draft, len: usize) -> Draft {
+    if len < draft.len {
+        draft.len = len;
+    }
+    draft
+}
+
+// Some bytes more.
+fn bytes(draft: Draft, values: &[u8]) -> Draft {
+    let mut drafted = draft;
+    for i in 0..values.len() {
+        drafted = byte(drafted, values[i]);
+    }
+    drafted
+}
+
+// k and n stand, m is 0. Each information stream has the generator 1 at parity stream 1, whose bit is in the map, and the one check s0.
+pub(crate) fn plain(k: u8, n: u8, map_low: u8, map_high: u8) -> Draft {
+    let head = byte(byte(byte(of(b"\x03\x01"), k), n), 0);
+    let code = byte(byte(head, map_low), map_high);
+    let generators = repeated(code, b"\x01\x00\x00\x00", k);
+    repeated(generators, b"\x01\x01\x01\x00\x00\x00", k)
+}
+
+// The same bytes, some times more.
+fn repeated(draft: Draft, values: &[u8], times: u8) -> Draft {
+    let mut drafted = draft;
+    for _ in 0..times {
+        drafted = bytes(drafted, values);
+    }
+    drafted
+}
+
+pub(crate) fn of(values: &[u8]) -> Draft {
+    bytes(empty(), values)
+}
+
+// "Integers are little-endian."
+pub(crate) fn mask(draft: Draft, m: u32) -> Draft {
+    let one = byte(draft, (m % 256) as u8);
+    let two = byte(one, (m / 256 % 256) as u8);
+    let three = byte(two, (m / 0x1_0000 % 256) as u8);
+    byte(three, (m / 0x100_0000) as u8)
+}
+
+// A check over one parity stream, whose bit the map is.
+pub(crate) fn check_on(draft: Draft, map: u8, m: u32) -> Draft {
+    mask(byte(draft, map), m)
+}
