@@ -6,7 +6,7 @@ use mathlib.Core.Path.{_≡_}
 use mathlib.Core.List.{[], _∷_, _++_}
 use lib.IntN.{pos}
 use lib.ListN.{take}
-use Rattle.card.specs.Code.{sent}
+use Rattle.code.specs.Code.{sent}
 use Rattle.card.specs.Outcome.{Outcome}
 use Rattle.card.specs.Outcome.Outcome.{accepted, refused}
 use Rattle.card.specs.Reading.{readCard}

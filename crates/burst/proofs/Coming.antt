@@ -8,9 +8,9 @@ use Rattle.bits.specs.Sums.{sumBelow, back}
 use Rattle.bits.proofs.Sums.{sum-cong, sum-add, sum-none, sum-first, sum-cut}
 use Rattle.bits.proofs.Back.{back-in, back-out, back-suc}
 use Rattle.bits.proofs.Digits.{bit-high}
-use Rattle.card.specs.Code.{generator, digit, parityAt}
-use Rattle.card.specs.Guarantees.{Guarantees}
-use Rattle.card.specs.declared.Card.{Card}
+use Rattle.code.specs.Code.{generator, digit, parityAt}
+use Rattle.code.specs.Guarantees.{Guarantees}
+use Rattle.code.specs.declared.Card.{Card}
 use Rattle.burst.specs.Held.{comingAt}
 
 -- the part of parity digit j at t + a that the information digits up to time t give

@@ -18,9 +18,9 @@ use Rattle.bits.proofs.Lists.{part-at}
 use Rattle.bits.proofs.Back.{back-in}
 use Rattle.bits.proofs.Cases.{le-or-lt}
 use Rattle.bits.proofs.Digits.{bit-lt, bit-mod, bit-xor, bit-of-zero, from-digits-same, from-digits-bits}
-use Rattle.card.specs.Code.{generator, digit}
-use Rattle.card.specs.Guarantees.{Guarantees}
-use Rattle.card.specs.declared.Card.{Card}
+use Rattle.code.specs.Code.{generator, digit}
+use Rattle.code.specs.Guarantees.{Guarantees}
+use Rattle.code.specs.declared.Card.{Card}
 use Rattle.majority.specs.Rule.{cleared, decideFrame, decided, corrected}
 use Rattle.majority.specs.Voting.{decideBy}
 use Rattle.majority.proofs.Voting.{decide-lt-k, decide-is}

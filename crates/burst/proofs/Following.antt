@@ -19,9 +19,9 @@ use Rattle.bits.proofs.Back.{back-in, back-out}
 use Rattle.bits.proofs.Cases.{le-or-lt}
 use Rattle.bits.proofs.Digits.{bit-lt, bit-zero, bit-suc, bit-shift, bit-high, bit-mod, bit-xor, bit-masks, place-same, place-other}
 use Rattle.bits.proofs.Words.{shift-digit}
-use Rattle.card.specs.Code.{generator, digit, parityAt}
-use Rattle.card.specs.Guarantees.{Guarantees}
-use Rattle.card.specs.declared.Card.{Card}
+use Rattle.code.specs.Code.{generator, digit, parityAt}
+use Rattle.code.specs.Guarantees.{Guarantees}
+use Rattle.code.specs.declared.Card.{Card}
 use Rattle.majority.specs.Rule.{syndrome, cleared, decided}
 use Rattle.majority.proofs.Streams.{decided-length}
 use Rattle.majority.proofs.Feedback.{syndrome-lt, cleared-lt, cleared-new}

@@ -11,8 +11,8 @@ use lib.Bits.{bitXor}
 use lib.Pow.{pow-mono}
 use Rattle.bits.specs.Sums.{upTo}
 use Rattle.bits.proofs.Lists.{part-at, part-length, part-step}
-use Rattle.card.specs.Guarantees.{Guarantees}
-use Rattle.card.specs.declared.Card.{Card}
+use Rattle.code.specs.Guarantees.{Guarantees}
+use Rattle.code.specs.declared.Card.{Card}
 use Rattle.majority.specs.Rule.{decided, corrected, decoded}
 use Rattle.burst.specs.Registers.{generatorSums, written, TakenIn, takenOut, Corrected}
 use Rattle.burst.specs.Held.{With, cardWith, Carried, HandedOut}

@@ -7,13 +7,13 @@ use lib.ListN.{length, drop}
 use lib.IntN.{ℤ, pos, negℤ}
 use borrow.Author.Tests.{lt-ltb, le-ltb}
 use Rattle.bits.specs.Digits.{anyBeyond}
-use Rattle.card.specs.Code.{sent}
+use Rattle.code.specs.Code.{sent}
 use Rattle.card.specs.Outcome.{Outcome, accepted, refused, outcomeOf, CardOutcome}
 use Rattle.card.specs.Promise.{CardPromise}
 use Rattle.card.specs.Reading.{readCard}
-use Rattle.card.specs.declared.Card.{Card}
+use Rattle.code.specs.declared.Card.{Card}
 use Rattle.card.specs.declared.CardRead.{CardRead}
-use Rattle.card.proofs.Sent.{sent-length}
+use Rattle.code.proofs.Sent.{sent-length}
 use Rattle.burst.specs.Outcome.{BurstOutcome, outcome, refusedOf, givenOf, underCard}
 use Rattle.burst.specs.Sending.{sendUnder, sendOf}
 

@@ -8,11 +8,11 @@ use lib.Seq.{take-at}
 use lib.IntN.{ℤ, pos, negℤ}
 use borrow.Author.Tests.{lt-ltb, le-ltb}
 use Rattle.bits.specs.Digits.{anyBeyond}
-use Rattle.card.specs.Guarantees.{Guarantees}
+use Rattle.code.specs.Guarantees.{Guarantees}
 use Rattle.card.specs.Outcome.{Outcome, accepted, refused, outcomeOf, CardOutcome}
 use Rattle.card.specs.Promise.{CardPromise}
 use Rattle.card.specs.Reading.{readCard}
-use Rattle.card.specs.declared.Card.{Card}
+use Rattle.code.specs.declared.Card.{Card}
 use Rattle.card.specs.declared.CardRead.{CardRead}
 use Rattle.majority.specs.Rule.{decoded}
 use Rattle.majority.proofs.Streams.{decoded-length}

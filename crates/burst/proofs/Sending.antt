@@ -7,11 +7,11 @@ use native.Mathlib.Omega.{arith}
 use lib.ListN.{length, getD, drop, set}
 use Rattle.bits.specs.Sums.{upTo}
 use Rattle.bits.proofs.Lists.{part-step}
-use Rattle.card.specs.Code.{withTail, sentFrame, sent}
+use Rattle.code.specs.Code.{withTail, sentFrame, sent}
 use Rattle.code.specs.Registers.{historyBy, frameBy}
-use Rattle.card.specs.declared.Card.{Card}
-use Rattle.card.proofs.Registers.{HistoryBefore}
-use Rattle.card.proofs.Sending.{turn-history, turn-frame}
+use Rattle.code.specs.declared.Card.{Card}
+use Rattle.code.proofs.Registers.{HistoryBefore}
+use Rattle.code.proofs.Sending.{turn-history, turn-frame}
 use Rattle.burst.specs.Sending.{Names}
 
 -- before time `at`: the registers hold the digits so far, and the output the frames so far

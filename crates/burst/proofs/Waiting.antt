@@ -14,7 +14,7 @@ use Rattle.bits.proofs.Lists.{zeros-at, part-length}
 use Rattle.bits.proofs.Back.{back-out, back-suc}
 use Rattle.bits.proofs.Cases.{le-or-lt}
 use Rattle.bits.proofs.Digits.{bit-of-zero}
-use Rattle.card.specs.declared.Card.{Card}
+use Rattle.code.specs.declared.Card.{Card}
 use Rattle.majority.specs.Rule.{cleared, decided}
 use Rattle.burst.specs.Registers.{comingNext, syndromesNext, TakenIn}
 use Rattle.burst.specs.Held.{syndromeHeld, Before, With, cardWith, Carried}

@@ -11,7 +11,7 @@ use lib.IntN.{ℤ, pos}
 use Rattle.bits.specs.Digits.{anyBeyond}
 use Rattle.card.specs.Outcome.Outcome.{accepted}
 use Rattle.card.specs.Reading.{readCard}
-use Rattle.card.specs.declared.Card.{Card}
+use Rattle.code.specs.declared.Card.{Card}
 use Rattle.majority.specs.AsSent.{Correctable}
 
 -- the burst meets none of the refusals: the card's, 15, 13 and 11

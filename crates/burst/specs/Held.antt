@@ -9,9 +9,9 @@ use lib.ListN.{length, getD, drop}
 use lib.Dec.{leb, ltb}
 use Rattle.bits.specs.Sums.{sumBelow, back}
 use Rattle.bits.specs.Digits.{bit}
-use Rattle.card.specs.Code.{generator, digit}
-use Rattle.card.specs.Guarantees.{Guarantees}
-use Rattle.card.specs.declared.Card.{Card}
+use Rattle.code.specs.Code.{generator, digit}
+use Rattle.code.specs.Guarantees.{Guarantees}
+use Rattle.code.specs.declared.Card.{Card}
 use Rattle.majority.specs.Rule.{cleared, decided, corrected, decoded}
 use Rattle.burst.specs.Registers.{generatorSums, written}
 

@@ -7,10 +7,10 @@ use mathlib.Core.List.{List}
 use lib.ListN.{length}
 use lib.Dec.{ltb}
 use Rattle.bits.specs.Digits.{anyBeyond}
-use Rattle.card.specs.Code.{sent}
-use Rattle.card.specs.Guarantees.{Guarantees}
+use Rattle.code.specs.Code.{sent}
+use Rattle.code.specs.Guarantees.{Guarantees}
 use Rattle.card.specs.Reading.{readCard}
-use Rattle.card.specs.declared.Card.{Card}
+use Rattle.code.specs.declared.Card.{Card}
 use Rattle.burst.specs.Outcome.{BurstOutcome, refusedOf, givenOf, underCard}
 
 -- under the card c: "15 by length (sent frames with tail), 13, 11"

@@ -3,7 +3,7 @@
 ghost use mathlib.Core.Path.{_≡_};
 ghost use Prim.Native.Nat.{_+_, _-_, _≤_};
 ghost use lib.ListN.{length};
-ghost use Rattle.card.specs.Guarantees.{Guarantees};
+ghost use Rattle.code.specs.Guarantees.{Guarantees};
 ghost use Rattle.burst.specs.Outcome.{outcome};
 ghost use Rattle.burst.specs.Receiving.{receiveUnder, receiveOf};
 ghost use Rattle.burst.specs.Claims.{ComesOutAsSent};
@@ -14,9 +14,9 @@ use crate::registers::correct;
 use crate::registers::corrected;
 use crate::registers::generator_sums;
 use crate::registers::take_in;
-use card::Card;
 use card::Refusal;
 use card::Verdict;
+use code::Card;
 
 // The first m frames, for which nothing is handed out.
 fn fill(

@@ -3,16 +3,16 @@ ghost use mathlib.Core.Path.{_≡_};
 ghost use mathlib.Core.List.{_++_};
 ghost use Prim.Native.Nat.{_+_, _≤_};
 ghost use lib.ListN.{length, getD, drop};
-ghost use Rattle.card.specs.Code.{sent};
-ghost use Rattle.card.specs.Guarantees.{Guarantees};
-ghost use Rattle.card.specs.declared.Card.{Card};
+ghost use Rattle.code.specs.Code.{sent};
+ghost use Rattle.code.specs.Guarantees.{Guarantees};
+ghost use Rattle.code.specs.declared.Card.{Card};
 ghost use Rattle.burst.specs.Outcome.{outcome};
 ghost use Rattle.burst.specs.Sending.{Names, sendUnder, sendOf};
 use crate::answer::frames;
 use crate::answer::refused;
-use card::Card;
 use card::Refusal;
 use card::Verdict;
+use code::Card;
 
 // The information frame of time `at`, zero after the last one: the tail's.
 fn information(input: &[u8], at: usize) -> u32

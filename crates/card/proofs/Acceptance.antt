@@ -7,7 +7,7 @@ use native.Mathlib.Omega.{arith}
 use lib.ListN.{length, getD}
 use Rattle.card.specs.Outcome.{CardOutcome, outcomeOf, published}
 use Rattle.card.specs.Outcome.Outcome.{accepted}
-use Rattle.card.specs.Guarantees.{Guarantees}
+use Rattle.code.specs.Guarantees.{Guarantees}
 use Rattle.card.specs.Fields.{Fields, cardOf}
 use Rattle.card.specs.Reading.{answer, readCard}
 use Rattle.card.specs.Layout.{Acceptable}

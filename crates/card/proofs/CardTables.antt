@@ -5,7 +5,7 @@ use mathlib.Core.List.{List, [], _∷_}
 use native.Mathlib.Omega.{arith}
 use lib.ListN.{length, getD, List·getD-eq-default}
 use lib.Pow.{pow-pos}
-use Rattle.card.specs.Checks.{count, checkMask}
+use Rattle.code.specs.Checks.{count, checkMask}
 use Rattle.card.specs.Fields.{Stream, Fields, cardOf}
 use Rattle.card.specs.Layout.{AllMasksIn, AllStreamsIn, InLimits}
 use Rattle.card.proofs.Stores.{noStream, generator-at, count-at, check-at}

@@ -14,7 +14,7 @@ use Rattle.orthogonal.specs.declared.Judged.{Judged}
 use Rattle.card.specs.Refusals.{numberOf}
 use Rattle.card.specs.Reading.{judge}
 use Rattle.card.specs.Parts.{judgementNumber, PartOutcome, refusedPart}
-use Rattle.card.specs.declared.Card.{Card}
+use Rattle.code.specs.declared.Card.{Card}
 use Rattle.card.specs.declared.Refusal.{Refusal}
 use Rattle.card.specs.declared.Verdict.{Verdict}
 use Rattle.card.specs.declared.Verdict.the-variants.{Accepted, Refused}

@@ -12,7 +12,7 @@ use Rattle.card.specs.Reading.{byteField, readHead, readMasks, readGener
 use Rattle.card.specs.Reading.Field.{value}
 use Rattle.card.specs.Reading.Read.{got}
 use Rattle.card.specs.Layout.{mapOf, layoutMasks, layoutRows, layoutChecks, layoutStreams, layout, AllMasksIn, AllStreamsIn, Acceptable}
-use Rattle.card.specs.declared.Card.{Card}
+use Rattle.code.specs.declared.Card.{Card}
 use Rattle.card.proofs.Standing.{ChecksStand}
 use Rattle.card.proofs.Orthogonality.{AllStand, truly-standing}
 use Rattle.card.proofs.LayoutLaws.{map-lt}

@@ -9,10 +9,10 @@ use lib.Dec.{eqb}
 use borrow.Author.Tests.{eqb-true, eq-eqb, ne-eqb}
 use Rattle.bits.proofs.Cases.{same-or-not, picked}
 use Rattle.bits.proofs.Sums.{sum-none, none-of-sum}
-use Rattle.card.specs.Checks.{touchesBy}
+use Rattle.code.specs.Checks.{touchesBy}
 use Rattle.card.specs.Reading.{maskAt, otherError, touchedBy, clashes, judge}
-use Rattle.card.specs.declared.Card.{Card}
-use Rattle.card.proofs.Touches.{touches-by-le}
+use Rattle.code.specs.declared.Card.{Card}
+use Rattle.code.proofs.Touches.{touches-by-le}
 
 -- ---- the errors other than that of the own digit
 pub other-one : (i b s : ℕ) → (b ≡ 0 → s ≡ i → ⊥) → otherError i b s ≡ 1

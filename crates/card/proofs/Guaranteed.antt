@@ -5,8 +5,8 @@ use mathlib.Core.List.{[]}
 use mathlib.Core.Logic.{_⊎_, ⊎-elim}
 use native.Mathlib.Omega.{arith}
 use lib.ListN.{getD, List·getD-eq-default}
-use Rattle.card.specs.Checks.{count, checkMask}
-use Rattle.card.specs.Guarantees.{Guarantees}
+use Rattle.code.specs.Checks.{count, checkMask}
+use Rattle.code.specs.Guarantees.{Guarantees}
 use Rattle.card.specs.Fields.{Stream, Fields, cardOf}
 use Rattle.card.specs.Layout.{InLimits, TrulyOrthogonal}
 use Rattle.card.proofs.Stores.{noStream, stream-in}

@@ -15,14 +15,14 @@ use Rattle.bits.proofs.Back.{sum-from}
 use Rattle.bits.proofs.Lists.{zeros-at}
 use Rattle.bits.proofs.Digits.{bit-le, bit-zero, bit-high, bit-of-zero, bit-from-digits, from-digits-lt}
 use Rattle.bits.proofs.Words.{dot-shifted}
-use Rattle.card.specs.Code.{generator}
-use Rattle.card.specs.Checks.{touchesInfo, touchesBy}
+use Rattle.code.specs.Code.{generator}
+use Rattle.code.specs.Checks.{touchesInfo, touchesBy}
 use Rattle.card.specs.Reading.{maskAt, touchedBy, clashes, judge}
 use Rattle.card.specs.Parts.{judgementNumber}
 use Rattle.orthogonal.specs.ErrorMasks.{touchBy, errorMask, errorsBy, others, shared, joined, judgeStream, judgeBy}
 use Rattle.orthogonal.specs.declared.Judged.{Judged}
-use Rattle.card.specs.declared.Card.{Card}
-use Rattle.card.proofs.Touches.{touches-by-le}
+use Rattle.code.specs.declared.Card.{Card}
+use Rattle.code.proofs.Touches.{touches-by-le}
 use Rattle.card.proofs.Clashes.{no-clash, clash-none}
 use Rattle.orthogonal.proofs.ErrorMasks.{touch-lt, errors-long, errors-at, judged-at, others-away, others-own, shared-none, shared-some, joined-bit}
 

@@ -19,7 +19,7 @@ use Rattle.card.specs.Reading.{kField, nField, wordAt, standingMask, rea
 use Rattle.card.specs.Reading.Field.{value}
 use Rattle.card.specs.Reading.Read.{got}
 use Rattle.card.specs.Layout.{bytes4, stands, mapOf, layoutMasks, optional, layoutHead, allRows, layoutRows, layoutChecks, layoutStreams, layout}
-use Rattle.card.specs.declared.Card.{Card}
+use Rattle.code.specs.declared.Card.{Card}
 use Rattle.card.proofs.FieldValues.{value-same, ByteIs, byte-is, mask-is, map-is}
 use Rattle.card.proofs.ReadParts.{got-what, got-where, field-got, next-got, map-got, head-is}
 use Rattle.card.proofs.WholeReading.{check-is, fields-are}

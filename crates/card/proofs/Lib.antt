@@ -1,10 +1,3 @@
--- the code
-pub mod Frames
-pub mod Parity
-pub mod Sent
-pub mod Registers
-pub mod Sending
-pub mod Touches
 -- reading
 pub mod Numbers
 pub mod FieldValues

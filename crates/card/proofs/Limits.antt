@@ -16,7 +16,7 @@ use Rattle.card.specs.Reading.{kField, nField, mapField, standingMask, r
 use Rattle.card.specs.Reading.Field.{value, bad}
 use Rattle.card.specs.Reading.Read.{got}
 use Rattle.card.specs.Layout.{MasksIn, AllMasksIn, AllStreamsIn, InLimits}
-use Rattle.card.specs.declared.Card.{Card}
+use Rattle.code.specs.declared.Card.{Card}
 use Rattle.card.proofs.FieldValues.{not-value, value-same, byte-is, k-is, n-is, mask-is}
 use Rattle.card.proofs.ReadParts.{got-what, field-got, next-got, map-got, head-is}
 use Rattle.card.proofs.Standing.{ChecksStand}

@@ -4,13 +4,13 @@ use mathlib.Core.Path.{_≡_, refl, sym, subst, _∙_}
 use mathlib.Core.List.{List, [], _∷_}
 use native.Mathlib.Omega.{arith}
 use lib.ListN.{length, getD}
-use Rattle.card.specs.Code.{generator}
-use Rattle.card.specs.Checks.{count, checkMask, touchesInfo, touchesBy, touches}
+use Rattle.code.specs.Code.{generator}
+use Rattle.code.specs.Checks.{count, checkMask, touchesInfo, touchesBy, touches}
 use Rattle.card.specs.Fields.{Stream, Fields, codeOf, cardOf}
 use Rattle.card.specs.Reading.{maskAt}
 use Rattle.card.specs.Layout.{InLimits, TrulyOrthogonal}
-use Rattle.card.specs.declared.Card.{Card}
-use Rattle.card.proofs.Touches.{touches-same}
+use Rattle.code.specs.declared.Card.{Card}
+use Rattle.code.proofs.Touches.{touches-same}
 use Rattle.card.proofs.Stores.{noStream}
 use Rattle.card.proofs.CardTables.{streamOf, count-stated, mask-stated, stream-stated}
 use Rattle.card.proofs.Standing.{ChecksStand, touchesAt, ListOrthogonal, standing-orthogonal, orthogonal-standing}

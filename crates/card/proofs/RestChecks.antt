@@ -13,7 +13,7 @@ use Rattle.card.specs.Reading.{Read, mapRead, next, byteField, standingM
 use Rattle.card.specs.Reading.Field.{value, bad}
 use Rattle.card.specs.Reading.Read.{got, fault}
 use Rattle.card.specs.Parts.{after, PartOutcome, refusedPart, checksPart}
-use Rattle.card.specs.declared.Card.{Card}
+use Rattle.code.specs.declared.Card.{Card}
 use Rattle.card.proofs.Rest.{after-map, after-next, after-same, one-less, none-left, masks-turn, masks-fault, masks-end}
 
 -- the card with these tables of checks, read up to an offset

@@ -11,7 +11,7 @@ use Rattle.card.specs.Fields.{store, storeRows}
 use Rattle.card.specs.Reading.{mapRead, standingMask, mapField, readMasks, readRows, readGenerators}
 use Rattle.card.specs.Reading.Field.{value, bad}
 use Rattle.card.specs.Parts.{after, PartOutcome, refusedPart, withGenerators, generatorsPart}
-use Rattle.card.specs.declared.Card.{Card}
+use Rattle.code.specs.declared.Card.{Card}
 use Rattle.card.specs.declared.Refusal.{Refusal}
 use Rattle.card.specs.declared.Verdict.{Verdict}
 use Rattle.card.specs.declared.Verdict.the-variants.{Accepted, Refused}

@@ -6,10 +6,10 @@ use mathlib.Core.Logic.{⊎-elim}
 use native.Mathlib.Omega.{arith}
 use lib.ListN.{length, getD}
 use Rattle.bits.proofs.Cases.{le-or-lt}
-use Rattle.card.specs.Checks.{touchesBy}
+use Rattle.code.specs.Checks.{touchesBy}
 use Rattle.card.specs.Reading.{maskAt, touchedBy, judge}
-use Rattle.card.specs.declared.Card.{Card}
-use Rattle.card.proofs.Touches.{touches-by-le}
+use Rattle.code.specs.declared.Card.{Card}
+use Rattle.code.proofs.Touches.{touches-by-le}
 use Rattle.card.proofs.Clashes.{no-clash, clash-none, judge-none, none-judge}
 
 -- 1 if check q of a list touches the error (b, s)

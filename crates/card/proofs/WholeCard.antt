@@ -12,7 +12,7 @@ use Rattle.card.specs.Fields.{Head, Stream, emptyCard, codeOf, withCheck
 use Rattle.card.specs.Reading.{Read, readHead, readGenerators, readStreams, readFields, refusedCard, readCard}
 use Rattle.card.specs.Reading.Read.{got, fault}
 use Rattle.card.specs.Parts.{after, PartOutcome, partOf, refusedPart, headPart, generatorsPart, checksPart}
-use Rattle.card.specs.declared.Card.{Card}
+use Rattle.code.specs.declared.Card.{Card}
 use Rattle.card.specs.declared.CardRead.{CardRead}
 use Rattle.card.specs.declared.Refusal.{Refusal}
 use Rattle.card.specs.declared.Verdict.{Verdict}

@@ -13,7 +13,7 @@ use Rattle.card.specs.Fields.{Fields, codeOf, cardOf}
 use Rattle.card.specs.Reading.{Read, byteField, readHead, readMasks, readGenerators, judge, readCheck, readStreams, readFields, answer, readCard}
 use Rattle.card.specs.Reading.Field.{value}
 use Rattle.card.specs.Reading.Read.{got, fault}
-use Rattle.card.specs.declared.Card.{Card}
+use Rattle.code.specs.declared.Card.{Card}
 use Rattle.card.proofs.ReadParts.{not-got, got-what, got-where, field-got, next-got}
 
 -- ---- a check

@@ -5,7 +5,7 @@
 use Prim.Native.Nat.{ℕ, _+_, _-_, _*_}
 use mathlib.Core.List.{List, [], _∷_}
 use lib.ListN.{set, replicate}
-use Rattle.card.specs.declared.Card.{Card}
+use Rattle.code.specs.declared.Card.{Card}
 
 -- the fields before the generators; kStands and nStands are bits 0 and 1 of byte 0, and k and n have their defaults where they do not stand
 pub record Head : Type 0 where

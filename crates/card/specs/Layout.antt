@@ -7,7 +7,7 @@ use mathlib.Core.Bool.{cond}
 use mathlib.Core.List.{List, [], _∷_, _++_}
 use lib.ListN.{length, getD}
 use lib.Dec.{eqb}
-use Rattle.card.specs.Checks.{Orthogonal}
+use Rattle.code.specs.Checks.{Orthogonal}
 use Rattle.card.specs.Fields.{Head, Stream, Fields, cardOf}
 
 -- ---- the bytes

@@ -1,8 +1,5 @@
 pub mod Refusals
 pub mod Outcome
-pub mod Code
-pub mod Checks
-pub mod Guarantees
 pub mod Fields
 pub mod Reading
 pub mod Layout

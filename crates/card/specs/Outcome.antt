@@ -2,7 +2,7 @@
 -- Assumes nothing.
 use Prim.Native.Nat.{ℕ}
 use Rattle.card.specs.Refusals.{numberOf}
-use Rattle.card.specs.declared.Card.{Card}
+use Rattle.code.specs.declared.Card.{Card}
 use Rattle.card.specs.declared.Verdict.{Verdict}
 use Rattle.card.specs.declared.Verdict.the-variants.{Accepted, Refused}
 use Rattle.card.specs.declared.CardRead.{CardRead}

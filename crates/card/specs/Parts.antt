@@ -15,7 +15,7 @@ use Rattle.orthogonal.specs.declared.Failure.{Failure}
 use Rattle.orthogonal.specs.declared.Failure.the-variants as Failures
 use Rattle.orthogonal.specs.declared.Judgement.{Judgement}
 use Rattle.orthogonal.specs.declared.Judgement.the-variants.{Stands, Fails}
-use Rattle.card.specs.declared.Card.{Card}
+use Rattle.code.specs.declared.Card.{Card}
 use Rattle.card.specs.declared.Refusal.{Refusal}
 use Rattle.card.specs.declared.Refusal.the-variants.{OwnDigitUntouched, ErrorTouchedBefore}
 use Rattle.card.specs.declared.Verdict.{Verdict}

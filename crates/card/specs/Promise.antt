@@ -9,7 +9,7 @@ use Rattle.card.specs.Outcome.{published, outcomeOf}
 use Rattle.card.specs.Outcome.Outcome.{accepted}
 use Rattle.card.specs.Fields.{Fields, cardOf}
 use Rattle.card.specs.Layout.{Acceptable}
-use Rattle.card.specs.Guarantees.{Guarantees}
+use Rattle.code.specs.Guarantees.{Guarantees}
 use Rattle.card.specs.Reading.{readCard}
 use Rattle.card.specs.declared.CardRead.{CardRead}
 

@@ -9,9 +9,9 @@ use lib.Dec.{leb, ltb, eqb}
 use Rattle.bits.specs.Sums.{sumBelow}
 use Rattle.card.specs.Outcome.{CardOutcome}
 use Rattle.card.specs.Outcome.Outcome.{accepted, refused}
-use Rattle.card.specs.Checks.{touchesBy}
+use Rattle.code.specs.Checks.{touchesBy}
 use Rattle.card.specs.Fields.{Head, Stream, Fields, emptyCard, codeOf, cardOf}
-use Rattle.card.specs.declared.Card.{Card}
+use Rattle.code.specs.declared.Card.{Card}
 
 -- ---- what reading gives
 

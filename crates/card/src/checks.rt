@@ -4,13 +4,13 @@ ghost use Prim.Native.Nat.{_+_, _<_, _≤_};
 ghost use lib.ListN.{length};
 ghost use Rattle.card.specs.Reading.{readStreams};
 ghost use Rattle.card.specs.Parts.{refusalOf, partOf, checksPart};
-use crate::Card;
 use crate::Refusal;
 use crate::Verdict;
 use crate::fields;
 use crate::fields::FieldRead;
 use crate::parts;
 use crate::parts::Part;
+use code::Card;
 use orthogonal::Failure;
 use orthogonal::Judgement;
 

@@ -1,4 +1,4 @@
-// Link cards: the code and the checks that a card names, and reading one from its bytes.
+// Link cards: reading one from its bytes, and why something is refused.
 mod checks;
 mod fields;
 mod parts;
@@ -7,17 +7,7 @@ ghost use mathlib.Core.Path.{_≡_};
 ghost use Rattle.card.specs.Refusals.{numberOf};
 ghost use Rattle.card.specs.Fields.{emptyCard};
 ghost use Rattle.card.specs.Promise.{CardPromise};
-
-// What a card states; what it does not state is zero, so equal cards are equal values.
-pub struct Card {
-    pub number: u8,
-    pub k: usize, // information streams
-    pub p: usize, // parity streams, n - k
-    pub m: usize, // memory
-    pub generators: [u32; 32], // information stream i, parity stream j, at i * 8 + j
-    pub counts: [usize; 4], // J of information stream i
-    pub checks: [u32; 512], // information stream i, check q, parity stream j, at i * 128 + q * 8 + j
-}
+use code::Card;
 
 // Why something is refused. Each case has its published number, by `refusal_number`.
 pub enum Refusal {

@@ -5,11 +5,11 @@ ghost use lib.ListN.{length};
 ghost use Rattle.card.specs.Reading.{readHead, readGenerators};
 ghost use Rattle.card.specs.Parts.{verdictOf, partOf, headPart, generatorsPart};
 ghost use Rattle.card.specs.Fields.{emptyCard};
-use crate::Card;
 use crate::Refusal;
 use crate::Verdict;
 use crate::fields;
 use crate::fields::FieldRead;
+use code::Card;
 
 // A card as far as it was read, and the offset after that; the empty card where it is refused.
 pub(crate) struct Part {

@@ -1,1 +1,6 @@
+pub mod Frames
+pub mod ParityLaws
+pub mod Sent
 pub mod Registers
+pub mod Sending
+pub mod Touches

@@ -1,1 +1,4 @@
+pub mod Code
+pub mod Checks
+pub mod Guarantees
 pub mod Registers

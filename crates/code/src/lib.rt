@@ -1,7 +1,19 @@
-// The code by registers: bit a of history register i is information digit i of the frame a before the last one taken.
+// The code and the checks that a card names, and the code by registers: bit a of history register i is information digit i of the frame a before
+// the last one taken.
 ghost use mathlib.Core.Path.{_≡_};
 ghost use Prim.Native.Nat.{_<_};
 ghost use Rattle.code.specs.Registers.{generatorMask, shiftIn, historyBy, parityBy, frameBy};
+
+// What a card states; what it does not state is zero, so equal cards are equal values.
+pub struct Card {
+    pub number: u8,
+    pub k: usize, // information streams
+    pub p: usize, // parity streams, n - k
+    pub m: usize, // memory
+    pub generators: [u32; 32], // information stream i, parity stream j, at i * 8 + j
+    pub counts: [usize; 4], // J of information stream i
+    pub checks: [u32; 512], // information stream i, check q, parity stream j, at i * 128 + q * 8 + j
+}
 
 // The generator of information stream i and parity stream j, zero beyond the table.
 pub fn generator(generators: &[u32; 32], i: usize, j: usize) -> u32

@@ -5,7 +5,7 @@ use mathlib.Core.List.{List, [], _∷_, _++_, map, append-assoc}
 use native.Mathlib.Omega.{arith}
 use lib.ListN.{length, getD, drop, replicate, length-append, length-replicate, length-map, getD-replicate, List·getD-append, List·getD-map}
 use lib.Seq.{drop-cons, getD-append-add}
-use Rattle.card.specs.declared.Card.{Card}
+use Rattle.code.specs.declared.Card.{Card}
 use Rattle.majority.specs.Rule.{decided, corrected, decoded}
 use Rattle.decoder.specs.Answers.{Given, waiting, frame}
 use Rattle.decoder.specs.Calls.{handedBy, answersBy}

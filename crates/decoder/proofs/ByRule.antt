@@ -11,9 +11,9 @@ use Rattle.bits.specs.Digits.{bit}
 use Rattle.bits.proofs.Sums.{sum-same}
 use Rattle.bits.proofs.Lists.{zeros-at}
 use Rattle.bits.proofs.Digits.{bit-of-zero, ones-of-digits}
-use Rattle.card.specs.Guarantees.{Guarantees}
-use Rattle.card.specs.declared.Card.{Card}
-use Rattle.card.proofs.Registers.{history-start}
+use Rattle.code.specs.Guarantees.{Guarantees}
+use Rattle.code.specs.declared.Card.{Card}
+use Rattle.code.proofs.Registers.{history-start}
 use Rattle.majority.specs.Rule.{decided, decoded, figureBy}
 use Rattle.majority.specs.AsSent.{Correctable}
 use Rattle.decoder.specs.Registers.{onesBy}

@@ -10,11 +10,11 @@ use lib.ListN.{length, getD, drop, length-drop, drop-of-length-le}
 use lib.Seq.{getD-drop, drop-drop}
 use Rattle.bits.specs.Digits.{bit}
 use Rattle.bits.proofs.Cases.{le-or-lt}
-use Rattle.card.specs.Code.{digit}
-use Rattle.card.specs.Guarantees.{Guarantees}
+use Rattle.code.specs.Code.{digit}
+use Rattle.code.specs.Guarantees.{Guarantees}
 use Rattle.code.specs.Registers.{historyBy}
-use Rattle.card.specs.declared.Card.{Card}
-use Rattle.card.proofs.Registers.{HistoryBefore, HistoryWith, history-later, history-next}
+use Rattle.code.specs.declared.Card.{Card}
+use Rattle.code.proofs.Registers.{HistoryBefore, HistoryWith, history-later, history-next}
 use Rattle.majority.specs.Rule.{decideFrame, decided}
 use Rattle.majority.specs.Voting.{decideBy}
 use Rattle.decoder.specs.Registers.{withSyndromes, correctedBy, fedBackBy}

@@ -7,8 +7,8 @@ use mathlib.Core.List.{List}
 use native.Mathlib.Omega.{arith}
 use lib.Dec.{ltb, eqb}
 use borrow.Author.Tests.{eq-eqb, ne-eqb, lt-ltb, le-ltb, eqb-true, eqb-false, ltb-true, ltb-false}
-use Rattle.card.specs.Guarantees.{Guarantees}
-use Rattle.card.specs.declared.Card.{Card}
+use Rattle.code.specs.Guarantees.{Guarantees}
+use Rattle.code.specs.declared.Card.{Card}
 use Rattle.decoder.specs.Answers.{Reply, waiting}
 use Rattle.decoder.specs.Readings.{Yield, yields, refuses, faults, frameRead, readByteOf, readFrameOf}
 use Rattle.decoder.specs.Receive.{streamsOf, withFrame, handingOf, takenOf, refusedOf, yieldTaken, receiveOf, receiveByteOf, receiveReadingsOf}

@@ -19,12 +19,12 @@ use Rattle.bits.proofs.Lists.{part-at}
 use Rattle.bits.proofs.Back.{back-in}
 use Rattle.bits.proofs.Digits.{bit-lt, bit-suc, bit-high, bit-xor, bit-masks, place-same, place-other, from-digits-same}
 use Rattle.bits.proofs.Words.{shift-digit}
-use Rattle.card.specs.Code.{generator, digit}
-use Rattle.card.specs.Guarantees.{Guarantees}
+use Rattle.code.specs.Code.{generator, digit}
+use Rattle.code.specs.Guarantees.{Guarantees}
 use Rattle.code.specs.Registers.{generatorMask}
-use Rattle.card.specs.declared.Card.{Card}
+use Rattle.code.specs.declared.Card.{Card}
 use Rattle.code.proofs.Registers.{in-table}
-use Rattle.card.proofs.Registers.{HistoryWith, parity-next}
+use Rattle.code.proofs.Registers.{HistoryWith, parity-next}
 use Rattle.majority.specs.Rule.{syndrome, cleared, decideFrame, decided, corrected}
 use Rattle.decoder.specs.Registers.{syndromeBy, withSyndromes, correctedBy, feedbackBy, fedBackBy}
 use Rattle.majority.specs.Voting.{decideBy}

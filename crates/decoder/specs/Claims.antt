@@ -5,7 +5,7 @@ use Prim.Native.Nat.{ℕ, _+_, _^_, _<_}
 use mathlib.Core.Path.{_≡_}
 use mathlib.Core.List.{List}
 use lib.ListN.{length, getD}
-use Rattle.card.specs.declared.Card.{Card}
+use Rattle.code.specs.declared.Card.{Card}
 use Rattle.majority.specs.Rule.{decoded, figureBy}
 use Rattle.majority.specs.AsSent.{Correctable}
 use Rattle.decoder.specs.Receive.{linkFigureOf}

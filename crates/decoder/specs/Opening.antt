@@ -7,7 +7,7 @@ use mathlib.Core.List.{List}
 use Rattle.card.specs.Fields.{emptyCard}
 use Rattle.card.specs.Outcome.{Outcome, accepted, refused, outcomeOf}
 use Rattle.card.specs.Reading.{readCard}
-use Rattle.card.specs.declared.Card.{Card}
+use Rattle.code.specs.declared.Card.{Card}
 use Rattle.decoder.specs.Calls.{Call, numberIn, replyOf}
 use Rattle.decoder.specs.Claims.{Claims}
 use Rattle.decoder.specs.Receive.{freshOf, openOf, refusedOf}

@@ -8,7 +8,7 @@ use mathlib.Core.List.{List}
 use lib.ListN.{replicate}
 use lib.Dec.{ltb, eqb}
 use Rattle.code.specs.Registers.{historyBy}
-use Rattle.card.specs.declared.Card.{Card}
+use Rattle.code.specs.declared.Card.{Card}
 use Rattle.decoder.specs.Readings.{Yield, yields, refuses, readByteOf, readFrameOf}
 use Rattle.decoder.specs.Answers.{Reply, waiting, frame, refused}
 use Rattle.majority.specs.Voting.{decideBy}

@@ -2,9 +2,9 @@
 mod readings;
 mod registers;
 
-use card::Card;
 use card::Refusal;
 use card::Verdict;
+use code::Card;
 use readings::ReadFrame;
 ghost use mathlib.Core.Path.{_≡_};
 ghost use Prim.Native.Nat.{_<_};

@@ -11,13 +11,13 @@ use lib.ListN.{length, getD, take, drop, replicate, length-append, length-drop, 
 use lib.Seq.{drop-cons, length-take-le, take-all}
 use borrow.Author.Tests.{leb-false}
 use Rattle.bits.proofs.Lists.{dropped-head, dropped-rest, dropped-within}
-use Rattle.card.specs.Code.{withTail, sentFrame, sent}
-use Rattle.card.specs.Guarantees.{Guarantees}
+use Rattle.code.specs.Code.{withTail, sentFrame, sent}
+use Rattle.code.specs.Guarantees.{Guarantees}
 use Rattle.code.specs.Registers.{historyBy}
-use Rattle.card.specs.declared.Card.{Card}
-use Rattle.card.proofs.Registers.{HistoryBefore, history-start}
-use Rattle.card.proofs.Sending.{turn-history, turn-frame}
-use Rattle.card.proofs.Sent.{sent-length, sent-at}
+use Rattle.code.specs.declared.Card.{Card}
+use Rattle.code.proofs.Registers.{HistoryBefore, history-start}
+use Rattle.code.proofs.Sending.{turn-history, turn-frame}
+use Rattle.code.proofs.Sent.{sent-length, sent-at}
 use Rattle.encoder.specs.Sending.{openOf, historyNext, encodedOf, tailOut}
 use Rattle.encoder.specs.Calls.{Call, information, tail, framesGiven, informationTaken, tailTaken}
 use Rattle.encoder.specs.Claims.{Claims}

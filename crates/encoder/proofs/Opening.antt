@@ -5,7 +5,7 @@ use mathlib.Core.List.{List}
 use Rattle.card.specs.Outcome.{Outcome, accepted, refused, outcomeOf, CardOutcome}
 use Rattle.card.specs.Promise.{CardPromise}
 use Rattle.card.specs.Reading.{readCard}
-use Rattle.card.specs.declared.Card.{Card}
+use Rattle.code.specs.declared.Card.{Card}
 use Rattle.card.specs.declared.CardRead.{CardRead}
 use Rattle.card.proofs.RefusedCard.{not-both, refused-card}
 use Rattle.encoder.specs.Claims.{Claims}

@@ -4,8 +4,8 @@ use Prim.Native.Nat.{_+_}
 use mathlib.Core.Path.{_≡_}
 use mathlib.Core.List.{List}
 use lib.ListN.{length, take}
-use Rattle.card.specs.Code.{sent}
-use Rattle.card.specs.declared.Card.{Card}
+use Rattle.code.specs.Code.{sent}
+use Rattle.code.specs.declared.Card.{Card}
 use Rattle.encoder.specs.Calls.{Call, framesGiven, informationTaken, tailTaken}
 use Rattle.encoder.specs.declared.Session.{Session}
 

@@ -8,7 +8,7 @@ use mathlib.Core.List.{List}
 use lib.ListN.{replicate}
 use lib.Dec.{leb, ltb}
 use Rattle.code.specs.Registers.{historyBy, frameBy}
-use Rattle.card.specs.declared.Card.{Card}
+use Rattle.code.specs.declared.Card.{Card}
 use Rattle.encoder.specs.Outcome.{frame, refused, SendOutcome}
 use Rattle.encoder.specs.declared.Session.{Session}
 

@@ -4,9 +4,9 @@ ghost use Rattle.card.specs.Refusals.{numberOf};
 ghost use Rattle.encoder.specs.Opening.{OpenPromise};
 ghost use Rattle.encoder.specs.Outcome.{published};
 ghost use Rattle.encoder.specs.Sending.{unsentOf, refusedOf, encodedOf, sendOf, sendTailOf};
-use card::Card;
 use card::Refusal;
 use card::Verdict;
+use code::Card;
 
 // A session. What came before its first frame is zero, as the code says.
 pub struct Session {

@@ -4,8 +4,8 @@ use mathlib.Core.Path.{_≡_, refl}
 use mathlib.Core.List.{List, [], _∷_, _++_}
 use Rattle.bits.specs.Sums.{sumBelow, upTo, back}
 use Rattle.bits.specs.Digits.{bit, fromDigits, anyBeyond}
-use Rattle.card.specs.Code.{generator, digit, parityAt}
-use Rattle.card.specs.Checks.{count, checkMask, touchesInfo, touchesBy}
+use Rattle.code.specs.Code.{generator, digit, parityAt}
+use Rattle.code.specs.Checks.{count, checkMask, touchesInfo, touchesBy}
 use Rattle.card.specs.Fields.{store, storeRows, storeChecks, storeStreams, storeCounts, cardOf}
 use Rattle.card.specs.Reading.{byteField, kField, nField, mapField, wordAt, maskField, readHead, standingMask, readMasks, readRows, readGenerators, otherError, touchedBy, clashes, judge, readCheck, readChecks, readStreams, readFields, readCard}
 use Rattle.majority.specs.Rule.{syndrome, cleared, checkAt, votes, decide, decideFrame, decided, corrected, decoded}

@@ -10,7 +10,7 @@ use lib.IntN.{ℤ, pos}
 use Rattle.bits.specs.Digits.{anyBeyond}
 use Rattle.card.specs.Outcome.{Outcome}
 use Rattle.card.specs.Reading.{readCard}
-use Rattle.card.specs.declared.Card.{Card}
+use Rattle.code.specs.declared.Card.{Card}
 use Rattle.majority.specs.Rule.{decoded}
 use Rattle.majority.proofs.Streams.{decoded-length}
 use Rattle.burst.specs.Claims.{Admitted}

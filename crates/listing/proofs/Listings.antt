@@ -13,7 +13,7 @@ use Rattle.bits.specs.Digits.{anyBeyond}
 use Rattle.bits.proofs.Cases.{le-or-lt}
 use Rattle.card.specs.Outcome.{accepted}
 use Rattle.card.specs.Reading.{readCard}
-use Rattle.card.specs.declared.Card.{Card}
+use Rattle.code.specs.declared.Card.{Card}
 use Rattle.majority.specs.Rule.{decoded}
 use Rattle.listing.specs.Listing.{statedLength, cardBytes, frameBytes, tooLong, tooLongLine, refusedLine, cardLine, frameLines, endLine, firstBeyond, listingOf, listingUnder, listing}
 use Rattle.listing.specs.Promise.{Lists}

@@ -10,7 +10,7 @@ use Rattle.bits.specs.Sums.{upTo}
 use Rattle.bits.specs.Digits.{bit, anyBeyond}
 use Rattle.card.specs.Outcome.{Outcome, accepted, refused}
 use Rattle.card.specs.Reading.{readCard}
-use Rattle.card.specs.declared.Card.{Card}
+use Rattle.code.specs.declared.Card.{Card}
 use Rattle.majority.specs.Rule.{decoded}
 use Rattle.listing.specs.Text.{text, decimal, line}
 

@@ -5,10 +5,10 @@ use mathlib.Core.Path.{_≡_}
 use mathlib.Core.List.{List}
 use lib.ListN.{length, take}
 use lib.Seq.{sets}
-use Rattle.card.specs.Guarantees.{Guarantees}
+use Rattle.code.specs.Guarantees.{Guarantees}
 use Rattle.card.specs.Outcome.{accepted}
 use Rattle.card.specs.Reading.{readCard}
-use Rattle.card.specs.declared.Card.{Card}
+use Rattle.code.specs.declared.Card.{Card}
 
 -- the text was stored in the output, byte by byte from `at` on, and the place after it handed back
 pub record Wrote (output : List ℕ) (at : ℕ) (written after : List ℕ) (end : ℕ) : Type 0 where

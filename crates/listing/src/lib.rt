@@ -15,9 +15,9 @@ ghost use Rattle.listing.specs.Listing.{statedLength, firstBeyond, listi
 ghost use Rattle.listing.specs.Promise.{Lists};
 ghost use Rattle.listing.specs.Written.{WroteWhole, HandsOut, ReadAs};
 use bits::size;
-use card::Card;
 use card::Refusal;
 use card::Verdict;
+use code::Card;
 
 // The longest card and the most frames that are listed.
 const LONGEST_CARD: usize = 2048;

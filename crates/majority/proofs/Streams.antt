@@ -13,9 +13,9 @@ use Rattle.bits.specs.Digits.{bit}
 use Rattle.bits.proofs.Cases.{le-or-lt, last-or-below}
 use Rattle.bits.proofs.Digits.{bit-from-digits}
 use Rattle.bits.proofs.Lists.{upTo-length, upTo-at}
-use Rattle.card.specs.Code.{digit}
-use Rattle.card.specs.declared.Card.{Card}
-use Rattle.card.proofs.Frames.{digit-out}
+use Rattle.code.specs.Code.{digit}
+use Rattle.code.specs.declared.Card.{Card}
+use Rattle.code.proofs.Frames.{digit-out}
 use Rattle.majority.specs.Rule.{decide, decideFrame, decided, corrected, decoded}
 
 -- the answer of a test as a number, which `omega` reads

@@ -14,13 +14,13 @@ use Rattle.bits.specs.Digits.{bit}
 use Rattle.bits.proofs.Sums.{sum-same, at-most-one}
 use Rattle.bits.proofs.Cases.{last-or-below}
 use Rattle.bits.proofs.Digits.{from-digits-bits, from-digits-same}
-use Rattle.card.specs.Code.{digit, sent}
-use Rattle.card.specs.Checks.{count, touches}
-use Rattle.card.specs.Guarantees.{Guarantees}
-use Rattle.card.specs.declared.Card.{Card}
-use Rattle.card.proofs.Frames.{digit-le}
-use Rattle.card.proofs.Sent.{sent-info, sent-parity, with-tail-digit}
-use Rattle.card.proofs.Touches.{touches-le}
+use Rattle.code.specs.Code.{digit, sent}
+use Rattle.code.specs.Checks.{count, touches}
+use Rattle.code.specs.Guarantees.{Guarantees}
+use Rattle.code.specs.declared.Card.{Card}
+use Rattle.code.proofs.Frames.{digit-le}
+use Rattle.code.proofs.Sent.{sent-info, sent-parity, with-tail-digit}
+use Rattle.code.proofs.Touches.{touches-le}
 use Rattle.majority.specs.Rule.{checkAt, votes, decide, decided, corrected, decoded}
 use Rattle.majority.specs.AsSent.{wrong, touched, wrongTouched, Correctable}
 use Rattle.majority.proofs.Streams.{test-as-number, decided-digit, decided-none, decoded-length, decoded-at}

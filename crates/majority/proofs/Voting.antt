@@ -18,9 +18,9 @@ use Rattle.bits.proofs.Sums.{sum-mod, sum-cong, sum-add, sum-more, sum-none, su
 use Rattle.bits.proofs.Cases.{cond-le}
 use Rattle.bits.proofs.Digits.{bit-and, bit-xor, bit-of-zero, ones-sum, from-digits-lt, from-digits-same}
 use Rattle.bits.proofs.Words.{shift-digit}
-use Rattle.card.specs.Checks.{count, checkMask}
-use Rattle.card.specs.Guarantees.{Guarantees}
-use Rattle.card.specs.declared.Card.{Card}
+use Rattle.code.specs.Checks.{count, checkMask}
+use Rattle.code.specs.Guarantees.{Guarantees}
+use Rattle.code.specs.declared.Card.{Card}
 use Rattle.majority.specs.Rule.{cleared, checkAt, votes, decide, decideFrame}
 use Rattle.majority.specs.Voting.{checkBy, votesBy, majorityBy, decideBy}
 

@@ -4,9 +4,9 @@ use Prim.Native.Nat.{ℕ, suc, _+_, _*_, _/_, _%_, _≤_, _<_, min}
 use mathlib.Core.List.{List}
 use lib.ListN.{length}
 use Rattle.bits.specs.Sums.{sumBelow}
-use Rattle.card.specs.Code.{digit, sent}
-use Rattle.card.specs.Checks.{count, touches}
-use Rattle.card.specs.declared.Card.{Card}
+use Rattle.code.specs.Code.{digit, sent}
+use Rattle.code.specs.Checks.{count, touches}
+use Rattle.code.specs.declared.Card.{Card}
 
 -- 1 if the received digit of stream s at u differs from the sent one
 unfoldable pub wrong : Card → List ℕ → List ℕ → ℕ → ℕ → ℕ

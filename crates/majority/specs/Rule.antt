@@ -9,9 +9,9 @@ use lib.ListN.{length}
 use lib.Dec.{ltb}
 use Rattle.bits.specs.Sums.{sumBelow, upTo}
 use Rattle.bits.specs.Digits.{bit, fromDigits}
-use Rattle.card.specs.Code.{digit, parityAt}
-use Rattle.card.specs.Checks.{count, checkMask}
-use Rattle.card.specs.declared.Card.{Card}
+use Rattle.code.specs.Code.{digit, parityAt}
+use Rattle.code.specs.Checks.{count, checkMask}
+use Rattle.code.specs.declared.Card.{Card}
 
 -- s (u, j): the received parity digit plus the parity worked out from the received information digits
 unfoldable pub syndrome : Card → List ℕ → ℕ → ℕ → ℕ

@@ -5,7 +5,7 @@ use mathlib.Core.List.{_++_}
 use native.Mathlib.Omega.{arith}
 use lib.ListN.{length, take, replicate, length-replicate}
 use Rattle.card.specs.Reading.{readCard}
-use Rattle.card.specs.declared.Card.{Card}
+use Rattle.code.specs.declared.Card.{Card}
 use Rattle.majority.specs.Rule.{decoded}
 use Rattle.listing.specs.Listing.{cardLine, frameLines, endLine}
 use Rattle.listing.proofs.HandedOut.{admitted, handed-count, handed-within, handed-few}

@@ -5,7 +5,7 @@ use native.Mathlib.Omega.{arith}
 use lib.ListN.{length}
 use lib.IntN.{pos}
 use borrow.Author.Needs.{needs}
-use Rattle.card.specs.Checks.{count}
+use Rattle.code.specs.Checks.{count}
 use Rattle.majority.specs.Rule.{decoded}
 use Rattle.majority.proofs.Streams.{decoded-length}
 use Rattle.burst.proofs.Answers.{answer-is}

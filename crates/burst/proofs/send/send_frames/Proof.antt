@@ -5,10 +5,10 @@ use mathlib.Core.Path.{_≡_, refl, _∙_}
 use native.Mathlib.Omega.{arith}
 use lib.ListN.{length, length-set}
 use Rattle.bits.specs.Sums.{upTo}
-use Rattle.card.specs.Code.{withTail}
-use Rattle.card.specs.declared.Card.{Card}
+use Rattle.code.specs.Code.{withTail}
+use Rattle.code.specs.declared.Card.{Card}
 use Rattle.code.proofs.Registers.{frame-fits}
-use Rattle.card.proofs.Registers.{history-start}
+use Rattle.code.proofs.Registers.{history-start}
 use Rattle.burst.specs.Sending.{Names}
 use Rattle.burst.proofs.Sending.{SentBefore, sent-turn, sent-end}
 use Rattle.burst.proofs.send.send_frames.Statement.{statement}

@@ -3,8 +3,8 @@ use Prim.Native.Nat.{_+_}
 use mathlib.Core.Path.{refl, sym, _∙_}
 use lib.ListN.{length}
 use borrow.Author.Needs.{needs}
-use Rattle.card.specs.Code.{sent}
-use Rattle.card.proofs.Sent.{sent-length}
+use Rattle.code.specs.Code.{sent}
+use Rattle.code.proofs.Sent.{sent-length}
 use Rattle.burst.specs.Sending.{Names}
 use Rattle.burst.proofs.Answers.{answer-is}
 use Rattle.burst.proofs.Outcomes.{refused-is, given-is, under-full, under-short, under-beyond, under-sent}

@@ -1,7 +1,7 @@
 -- The refusal with the empty card.
 use mathlib.Core.Path.{ap}
 use borrow.Author.Needs.{needs}
-use Rattle.card.specs.declared.Card.{Card}
+use Rattle.code.specs.declared.Card.{Card}
 use Rattle.card.proofs.parts.refused_part.Statement.{statement}
 use Rattle.card.proofs.parts.refused_part.Tie as tie
 

@@ -6,7 +6,7 @@ use lib.ListN.{length, getD, List·getD-eq-default, List·getD-append}
 use lib.Seq.{getD-at}
 use Rattle.bits.specs.Digits.{bit}
 use Rattle.bits.proofs.Digits.{bit-le, bit-of-zero}
-use Rattle.card.specs.Code.{digit}
+use Rattle.code.specs.Code.{digit}
 
 pub digit-le : (frames : List ℕ) (s u : ℕ) → digit frames s u ≤ 1
 unfolding digit

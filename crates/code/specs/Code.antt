@@ -9,7 +9,7 @@ use lib.ListN.{length, getD, replicate}
 use lib.Dec.{ltb}
 use Rattle.bits.specs.Sums.{sumBelow, upTo, back}
 use Rattle.bits.specs.Digits.{bit, fromDigits}
-use Rattle.card.specs.declared.Card.{Card}
+use Rattle.code.specs.declared.Card.{Card}
 
 -- g (i, j, a): "a generator is a 32-bit mask: bit a is g (i, j, a)"
 unfoldable pub generator : Card → ℕ → ℕ → ℕ → ℕ

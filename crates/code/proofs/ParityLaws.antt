@@ -8,8 +8,8 @@ use native.Mathlib.Omega.{arith}
 use Rattle.bits.specs.Sums.{sumBelow, back}
 use Rattle.bits.proofs.Sums.{sum-cong, sum-add, sum-mod, mul-mod-left}
 use Rattle.bits.proofs.Back.{back-in, back-out, back-add}
-use Rattle.card.specs.Code.{generator, digit, parityAt}
-use Rattle.card.specs.declared.Card.{Card}
+use Rattle.code.specs.Code.{generator, digit, parityAt}
+use Rattle.code.specs.declared.Card.{Card}
 
 -- the parity sum of the digits d (stream, time), before the remainder
 unfoldable pub paritySum : Card → (ℕ → ℕ → ℕ) → ℕ → ℕ → ℕ

@@ -11,9 +11,9 @@ use Rattle.bits.specs.Digits.{bit}
 use Rattle.bits.proofs.Cases.{cond-le, le-or-lt}
 use Rattle.bits.proofs.Sums.{sum-same, sum-cong}
 use Rattle.bits.proofs.Digits.{bit-le}
-use Rattle.card.specs.Code.{generator}
-use Rattle.card.specs.Checks.{checkMask, touchesInfo, touchesBy, touches}
-use Rattle.card.specs.declared.Card.{Card}
+use Rattle.code.specs.Code.{generator}
+use Rattle.code.specs.Checks.{checkMask, touchesInfo, touchesBy, touches}
+use Rattle.code.specs.declared.Card.{Card}
 
 module _ (c : Card) (mask : ℕ → ℕ) where
   pub touches-info : (b s : ℕ) → s < c .k → touchesBy c mask b s ≡ touchesInfo c mask b s

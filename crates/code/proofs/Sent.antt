@@ -11,10 +11,10 @@ use Rattle.bits.specs.Digits.{bit}
 use Rattle.bits.proofs.Cases.{cond-le}
 use Rattle.bits.proofs.Digits.{bit-from-digits}
 use Rattle.bits.proofs.Lists.{upTo-length, upTo-at}
-use Rattle.card.specs.Code.{digit, parityAt, withTail, sentDigit, sentFrame, sent}
-use Rattle.card.specs.declared.Card.{Card}
-use Rattle.card.proofs.Frames.{digit-le, digit-append}
-use Rattle.card.proofs.Parity.{parity-sum, parity-le, parity-same}
+use Rattle.code.specs.Code.{digit, parityAt, withTail, sentDigit, sentFrame, sent}
+use Rattle.code.specs.declared.Card.{Card}
+use Rattle.code.proofs.Frames.{digit-le, digit-append}
+use Rattle.code.proofs.ParityLaws.{parity-sum, parity-le, parity-same}
 
 pub sent-digit-le : (c : Card) (xs : List ℕ) (u s : ℕ) → sentDigit c xs u s ≤ 1
 unfolding sentDigit

@@ -8,8 +8,8 @@ use lib.ListN.{getD}
 use lib.Dec.{ltb}
 use Rattle.bits.specs.Sums.{sumBelow, back}
 use Rattle.bits.specs.Digits.{bit}
-use Rattle.card.specs.Code.{generator}
-use Rattle.card.specs.declared.Card.{Card}
+use Rattle.code.specs.Code.{generator}
+use Rattle.code.specs.declared.Card.{Card}
 
 -- J, the number of checks for stream i
 unfoldable pub count : Card → ℕ → ℕ

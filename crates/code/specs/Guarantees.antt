@@ -5,8 +5,8 @@ use Prim.Native.Nat.{ℕ, _+_, _*_, _^_, _≤_, _<_}
 use mathlib.Core.Path.{_≡_}
 use mathlib.Core.Logic.{_⊎_}
 use lib.ListN.{getD}
-use Rattle.card.specs.Checks.{count, Orthogonal}
-use Rattle.card.specs.declared.Card.{Card}
+use Rattle.code.specs.Checks.{count, Orthogonal}
+use Rattle.code.specs.declared.Card.{Card}
 
 pub record Guarantees (c : Card) : Type 0 where
   pub number-most : c .number ≤ 255

@@ -6,11 +6,11 @@ use mathlib.Core.List.{List}
 use lib.ListN.{getD}
 use Rattle.bits.specs.Digits.{bit}
 use Rattle.bits.proofs.Lists.{zeros-after}
-use Rattle.card.specs.Code.{digit, withTail, sentFrame}
-use Rattle.card.specs.Guarantees.{Guarantees}
+use Rattle.code.specs.Code.{digit, withTail, sentFrame}
+use Rattle.code.specs.Guarantees.{Guarantees}
 use Rattle.code.specs.Registers.{historyBy, frameBy}
-use Rattle.card.specs.declared.Card.{Card}
-use Rattle.card.proofs.Registers.{HistoryBefore, HistoryWith, history-next, history-later, frame-next}
+use Rattle.code.specs.declared.Card.{Card}
+use Rattle.code.proofs.Registers.{HistoryBefore, HistoryWith, history-next, history-later, frame-next}
 
 module _ (c : Card) (G : Guarantees c) (info : List ℕ) (t : ℕ) (h : List ℕ) (f : ℕ) (hf : f ≡ getD info t 0) (H : HistoryBefore c (withTail c info) t h) where
   frame-digits : (i : ℕ) → i < c .k → bit f i ≡ digit (withTail c info) i t
