@@ -3,12 +3,10 @@ use Prim.Native.Nat.{ℕ, _+_, _-_, _%_, _^_, _≤_, _<_}
 use mathlib.Core.Path.{_≡_, refl, sym, ap, _∙_}
 use mathlib.Core.Logic.{⊎-elim}
 use mathlib.Core.List.{List, _++_}
-use native.Mathlib.Nat.{lt-of-lt-of-le}
 use native.Mathlib.Numerals.{add-one}
 use native.Mathlib.Omega.{arith}
 use lib.ListN.{length, getD, set, drop, replicate}
 use lib.Bits.{bitXor}
-use lib.Pow.{pow-mono}
 use Rattle.bits.specs.Sums.{upTo}
 use Rattle.bits.proofs.Lists.{part-at, part-length, part-step}
 use Rattle.code.specs.Guarantees.{Guarantees}

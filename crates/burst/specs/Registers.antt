@@ -1,7 +1,7 @@
 -- The burst receiver by registers: what its functions compute, for tables and registers of every value. Nobody has to believe this file: the
 -- laws in proofs/ tie it to the rule on whole streams (`majority`, `Rule`).
 -- Assumes nothing.
-use Prim.Native.Nat.{ℕ, _+_, _*_, _/_, _%_, _^_, _≤_, _<_}
+use Prim.Native.Nat.{ℕ, _+_, _*_, _/_, _%_, _^_, _<_}
 use mathlib.Core.Path.{_≡_}
 use mathlib.Core.Logic.{_⊎_}
 use mathlib.Core.List.{List, _++_}

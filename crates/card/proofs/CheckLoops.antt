@@ -1,25 +1,29 @@
 -- What the loops of `read_checks` keep, and what they leave. r is the whole answer, c the card before its checks.
-use Prim.Native.Nat.{ℕ, _+_, _*_, _^_, _≤_, _<_}
-use mathlib.Core.Path.{_≡_, sym, ap, _∙_}
+use Prim.Native.Nat.{ℕ, _+_, _-_, _*_, _/_, _%_, _^_, _≤_, _<_, zero-le}
+use mathlib.Core.Path.{_≡_, refl, sym, ap, _∙_}
 use mathlib.Core.List.{List, [], _∷_, _++_}
 use mathlib.Core.Logic.{⊎-elim}
-use native.Mathlib.Nat.{le-antisymm}
+use native.Mathlib.Nat.{le-antisymm, mod-lt, zero-lt-suc}
 use native.Mathlib.Omega.{arith}
-use lib.ListN.{length, getD, set, length-append}
+use lib.ListN.{length, getD, set, replicate, length-append, length-set}
+use lib.Pow.{pow-pos}
 use lib.Seq.{getD-set-same, getD-set-other}
 use Rattle.bits.proofs.Cases.{same-or-not}
-use Rattle.bits.proofs.Lists.{snoc-last, snoc-other}
+use Rattle.bits.proofs.Lists.{zeros-at, snoc-last, snoc-other}
 use Rattle.orthogonal.specs.ErrorMasks.{errorsBy, judgeBy}
 use Rattle.orthogonal.specs.declared.Judged.{Judged}
 use Rattle.card.specs.Refusals.{numberOf}
-use Rattle.card.specs.Reading.{judge}
+use Rattle.card.specs.Reading.{byteField, standingMask, judge}
+use Rattle.card.specs.Reading.Field.{value}
 use Rattle.card.specs.Parts.{judgementNumber, PartOutcome, refusedPart}
 use Rattle.code.specs.declared.Card.{Card}
 use Rattle.card.specs.declared.Refusal.{Refusal}
 use Rattle.card.specs.declared.Verdict.{Verdict}
 use Rattle.card.specs.declared.Verdict.the-variants.{Accepted, Refused}
-use Rattle.card.proofs.Judging.{Union, judged-same, judged-union}
-use Rattle.card.proofs.RestChecks.{tablesPart, restStreams, restChecks, restMasks}
+use Rattle.card.proofs.Judging.{Union, union-none, judged-same, judged-union}
+use Rattle.card.proofs.FieldValues.{byte-is, standing-inside, standing-within}
+use Rattle.card.proofs.HeadStages.{map-limit}
+use Rattle.card.proofs.RestChecks.{tablesPart, restStreams, restChecks, restMasks, streams-turn, checks-turn, checks-end, check-turn, check-stands}
 
 -- what the reader of the head and the generators leaves
 pub record Limits (c : Card) : Type 0 where
@@ -137,6 +141,99 @@ seen-more {m} {masks} {j} {seen} {v} l h s =
           ⊎-elim (λ e. ap (λ x. getD (set masks j v) x 0) e ∙ getD-set-same masks j v 0 l ∙ sym (snoc-last seen v n (e ∙ sym (s .many))))
           (λ e. getD-set-other masks j n v 0 e ∙ s .same n ∙ sym (snoc-other seen v n (λ q. e (q ∙ s .many)))) (same-or-not n j);
     }
+
+-- ---- the turns
+module _ {bs : List ℕ} {c : Card} {r : PartOutcome} {verdict : Verdict} {counts checks : List ℕ} {at i : ℕ} where
+  pub checks-begin : {count : ℕ} → AtStreams bs c r verdict counts checks at i → i < c .k → byteField bs at 1 16 7 ≡ value count
+      → AtChecks bs c r i count (set counts i count) verdict checks (replicate 8 0) (at + 1) 0
+  checks-begin v l e =
+      let b = byte-is _ _ _ _ _ _ e in
+      record {
+        limits = v .limits;
+        stream-lt = l;
+        check-most = zero-le;
+        count-most = b .most;
+        inside = next-most (b .inside);
+        long-counts = simp length-set (v .long-counts);
+        long-checks = v .long-checks;
+        unbroken = v .unbroken;
+        earlier = [];
+        union = union-none c i;
+        same = sym (streams-turn bs c i counts checks at l e) ∙ v .same;
+      }
+
+  module _ {count q : ℕ} {touched : List ℕ} (v : AtChecks bs c r i count counts verdict checks touched at q) where
+    pub masks-begin : {map : ℕ} → q < count → byteField bs at 0 (1 * 2 ^ c .p % 4294967296 - 1) 5 ≡ value map
+        → AtMasks bs c r i count counts q at touched verdict checks (replicate 8 0) map (at + 1) 0
+    masks-begin l e =
+        record {
+          limits = v .limits;
+          stream-lt = v .stream-lt;
+          check-lt = l;
+          mask-most = zero-le;
+          count-most = v .count-most;
+          inside = next-most (byte-is _ _ _ _ _ _ e .inside);
+          long-counts = v .long-counts;
+          long-checks = v .long-checks;
+          long-masks = refl;
+          unbroken = v .unbroken;
+          earlier = v .earlier;
+          union = v .union;
+          seen = [];
+          seen-are = record { many = refl; within = λ n. pow-pos _; same = λ n. zeros-at 8 n };
+          same = sym (checks-turn bs c i count q (v .earlier) counts checks at l (map-limit bs at (c .p) (v .limits .p-most) e)) ∙ v .same;
+        }
+
+    pub streams-next : count ≤ q → AtStreams bs c r verdict counts checks at (i + 1)
+    streams-next l =
+        record {
+          limits = v .limits;
+          stream-most = next-most (v .stream-lt);
+          inside = v .inside;
+          long-counts = v .long-counts;
+          long-checks = v .long-checks;
+          unbroken = v .unbroken;
+          same = sym (checks-end bs c i count q (v .earlier) counts checks at l) ∙ v .same;
+        }
+
+  module _ {count q place : ℕ} {touched masks : List ℕ} {rest j : ℕ} (v : AtMasks bs c r i count counts q place touched verdict checks masks rest at j) where
+    pub masks-next : {x : ℕ} → j < c .p → standingMask bs at (c .m) (rest % 2) ≡ value x
+        → AtMasks bs c r i count counts q place touched verdict (set checks (i * 128 + q * 8 + j) x) (set masks j x) (rest / 2) (at + rest % 2 * 4) (j + 1)
+    masks-next {x} l e =
+        record {
+          limits = v .limits;
+          stream-lt = v .stream-lt;
+          check-lt = v .check-lt;
+          mask-most = next-most l;
+          count-most = v .count-most;
+          inside = standing-inside bs at (c .m) (rest % 2) x (v .inside) (mod-lt rest (zero-lt-suc 1)) e;
+          long-counts = v .long-counts;
+          long-checks = simp length-set (v .long-checks);
+          long-masks = simp length-set (v .long-masks);
+          unbroken = v .unbroken;
+          earlier = v .earlier;
+          union = v .union;
+          seen = v .seen ++ (x ∷ []);
+          seen-are = seen-more (rw (v .long-masks) (place-of v l .mask-lt)) (standing-within bs at (c .m) (rest % 2) x e) (v .seen-are);
+          same = sym (check-turn bs c i count q (v .earlier) counts place (v .seen) j checks rest at l e) ∙ v .same;
+        }
+
+    pub checks-next : c .p ≤ j → {errors : List ℕ} {judged : Judged} → errors ≡ errorsBy (c .generators) masks (c .k) (c .p) (c .m) → judged ≡ judgeBy errors touched i
+        → judgementNumber (judged .judgement) ≡ 0 → AtChecks bs c r i count counts verdict checks (judged .touched) at (q + 1)
+    checks-next whole es ej z =
+        record {
+          limits = v .limits;
+          stream-lt = v .stream-lt;
+          check-most = next-most (v .check-lt);
+          count-most = v .count-most;
+          inside = v .inside;
+          long-counts = v .long-counts;
+          long-checks = v .long-checks;
+          unbroken = v .unbroken;
+          earlier = v .seen ∷ v .earlier;
+          union = judged-errors v whole es ej z;
+          same = sym (check-stands bs c i count q (v .earlier) counts place (v .seen) j checks rest at whole (judged-number v whole es ej ∙ z)) ∙ v .same;
+        }
 
 -- ---- what the loops leave
 abbrev pub leftTables : Card → Verdict → List ℕ → List ℕ → ℕ → PartOutcome

@@ -1,5 +1,5 @@
 -- The loop has decided the errors of the streams that it passed.
-use Prim.Native.Nat.{_-_, _^_, _≤_, _<_, min}
+use Prim.Native.Nat.{_-_, _^_, _≤_, _<_}
 use mathlib.Core.Path.{_≡_, refl, ap₂, _∙_}
 use native.Mathlib.Nat.{le-antisymm}
 use native.Mathlib.Omega.{arith}

@@ -1,24 +1,20 @@
 -- The rest of the checks from where the loops stand gives the whole answer (`RestChecks`, `CheckLoops`).
 use Prim.Native.Nat.{_-_}
 use mathlib.Core.Path.{_≡_, refl, sym, ap, _∙_}
-use mathlib.Core.List.{[], _∷_, _++_}
 use mathlib.Core.Logic.{⊎-elim}
 use native.Mathlib.Omega.{arith}
-use lib.ListN.{length-set}
 use lib.Pow.{pow-pos}
 use denote.Ref.{now}
-use Rattle.bits.proofs.Lists.{zeros-at}
 use Rattle.card.specs.Outcome.{outcomeOf}
 use Rattle.card.specs.Fields.{emptyCard}
 use Rattle.card.specs.Reading.{readStreams}
 use Rattle.card.specs.Parts.{refusalOf, judgementNumber, verdictOf, partOf, checksPart}
 use Rattle.card.specs.declared.Verdict.{Verdict}
-use Rattle.card.proofs.FieldValues.{has-value, has-fault, byte-is, standing-inside, standing-within}
+use Rattle.card.proofs.FieldValues.{has-value, has-fault, byte-is, standing-inside}
 use Rattle.card.proofs.Numbers.{number-least}
 use Rattle.card.proofs.HeadStages.{top-map, map-limit}
-use Rattle.card.proofs.Judging.{union-none}
-use Rattle.card.proofs.RestChecks.{streams-start, streams-end, streams-fault, streams-turn, checks-end, checks-fault, checks-turn, check-fault, check-turn, check-stands, check-fails}
-use Rattle.card.proofs.CheckLoops.{AtStreams, AtChecks, AtMasks, next-most, place-of, judged-number, judged-errors, seen-more, leftTables, tables-ended, tables-broken, tables-failed}
+use Rattle.card.proofs.RestChecks.{streams-start, streams-end, streams-fault, checks-fault, check-fault, check-fails}
+use Rattle.card.proofs.CheckLoops.{AtStreams, AtChecks, AtMasks, place-of, judged-number, checks-begin, masks-begin, masks-next, checks-next, streams-next, leftTables, tables-ended, tables-broken, tables-failed}
 use borrow.Author.Needs.{needs}
 use Rattle.card.proofs.checks.read_checks.Statement.{statement}
 use Rattle.card.proofs.checks.read_checks.Tie as tie
@@ -88,21 +84,8 @@ cast-q-end c = omega arith
 
 loop-holds : tie.Need-loop-holds Inv-loop2 μ-loop2 Inv-loop μ-loop Inv-card μ-card
 loop-holds c =
-    let v = c .before .before .before .before .before .card .inv in
-    let b = byte-is _ _ _ _ _ _ (has-value (c .before .before .before .byte-field .ensures) (c .before .count-read .given .1)) in
-    record {
-      limits = v .limits;
-      stream-lt = c .before .before .before .before .card-test .taken;
-      check-most = omega arith;
-      count-most = b .most;
-      inside = (let h = b .inside in omega arith);
-      long-counts = simp length-set (v .long-counts);
-      long-checks = v .long-checks;
-      unbroken = v .unbroken;
-      earlier = [];
-      union = union-none _ _;
-      same = sym (streams-turn _ _ _ _ _ _ (c .before .before .before .before .card-test .taken) (has-value (c .before .before .before .byte-field .ensures) (c .before .count-read .given .1))) ∙ v .same;
-    }
+    checks-begin (c .before .before .before .before .before .card .inv) (c .before .before .before .before .card-test .taken)
+    (has-value (c .before .before .before .byte-field .ensures) (c .before .count-read .given .1))
 
 cast-byte-field : tie.Need-cast-byte-field Inv-loop2 μ-loop2 Inv-loop μ-loop Inv-card μ-card
 cast-byte-field c = omega arith
@@ -133,24 +116,8 @@ add-at-2 c = let h = byte-is _ _ _ _ _ _ (has-value (c .before .before .before .
 
 loop2-holds : tie.Need-loop2-holds Inv-loop2 μ-loop2 Inv-loop μ-loop Inv-card μ-card
 loop2-holds c =
-    let v = c .before .before .before .before .before .loop .inv in
-    record {
-      limits = v .limits;
-      stream-lt = v .stream-lt;
-      check-lt = c .before .before .before .before .loop-test .taken;
-      mask-most = omega arith;
-      count-most = v .count-most;
-      inside = (let h = byte-is _ _ _ _ _ _ (has-value (c .before .before .before .byte-field2 .ensures) (c .before .map-read .given .1)) .inside in omega arith);
-      long-counts = v .long-counts;
-      long-checks = v .long-checks;
-      long-masks = refl;
-      unbroken = v .unbroken;
-      earlier = v .earlier;
-      union = v .union;
-      seen = [];
-      seen-are = record { many = refl; within = λ n. pow-pos _; same = λ n. zeros-at 8 n };
-      same = sym (checks-turn _ _ _ _ _ _ _ _ _ (c .before .before .before .before .loop-test .taken) (map-limit _ _ _ (omega arith) (has-value (c .before .before .before .byte-field2 .ensures) (c .before .map-read .given .1)))) ∙ v .same;
-    }
+    masks-begin (c .before .before .before .before .before .loop .inv) (c .before .before .before .before .loop-test .taken)
+    (has-value (c .before .before .before .byte-field2 .ensures) (c .before .map-read .given .1))
 
 standing-mask-requires :
     tie.Need-standing-mask-requires Inv-loop2 μ-loop2 Inv-loop μ-loop Inv-card μ-card
@@ -208,24 +175,8 @@ loop2-less c = omega arith
 
 loop2-again : tie.Need-loop2-again Inv-loop2 μ-loop2 Inv-loop μ-loop Inv-card μ-card
 loop2-again c =
-    let v = c .before .before .before .before .before .loop2 .inv in
-    record {
-      limits = v .limits;
-      stream-lt = v .stream-lt;
-      check-lt = v .check-lt;
-      mask-most = next-most (c .before .before .before .before .loop2-test .taken);
-      count-most = v .count-most;
-      inside = standing-inside _ _ _ _ _ (v .inside) (omega arith) (has-value (c .before .before .before .standing-mask .ensures) (c .before .mask-read .given .1));
-      long-counts = v .long-counts;
-      long-checks = simp length-set (v .long-checks);
-      long-masks = simp length-set (v .long-masks);
-      unbroken = v .unbroken;
-      earlier = v .earlier;
-      union = v .union;
-      seen = v .seen ++ (c .before .mask-read .given .0 .0 ∷ []);
-      seen-are = seen-more (omega arith) (standing-within _ _ _ _ _ (has-value (c .before .before .before .standing-mask .ensures) (c .before .mask-read .given .1))) (v .seen-are);
-      same = sym (check-turn _ _ _ _ _ _ _ _ _ _ _ _ _ (c .before .before .before .before .loop2-test .taken) (has-value (c .before .before .before .standing-mask .ensures) (c .before .mask-read .given .1))) ∙ v .same;
-    }
+    masks-next (c .before .before .before .before .before .loop2 .inv) (c .before .before .before .before .loop2-test .taken)
+    (has-value (c .before .before .before .standing-mask .ensures) (c .before .mask-read .given .1))
 
 errors-by-requires : tie.Need-errors-by-requires Inv-loop2 μ-loop2 Inv-loop μ-loop Inv-card μ-card
 errors-by-requires c κs = search needs
@@ -252,24 +203,8 @@ loop-less c = omega arith
 
 loop-again : tie.Need-loop-again Inv-loop2 μ-loop2 Inv-loop μ-loop Inv-card μ-card
 loop-again c =
-    let v = c .before .before .before .before .before .before .before .before .loop2 .inv in
-    let whole = c .before .before .before .before .before .before .before .loop2-test .left in
-    let es = c .before .before .before .before .errors-by .ensures in
-    let ej = c .before .before .before .judge .ensures in
-    let z : judgementNumber (c .before .before .before .judge .result .judgement) ≡ 0 = ap judgementNumber (c .before .enum-told4 .given .1) in
-    record {
-      limits = v .limits;
-      stream-lt = v .stream-lt;
-      check-most = next-most (v .check-lt);
-      count-most = v .count-most;
-      inside = v .inside;
-      long-counts = v .long-counts;
-      long-checks = v .long-checks;
-      unbroken = v .unbroken;
-      earlier = v .seen ∷ v .earlier;
-      union = judged-errors v whole es ej z;
-      same = sym (check-stands _ _ _ _ _ _ _ _ _ _ _ _ _ whole (judged-number v whole es ej ∙ z)) ∙ v .same;
-    }
+    checks-next (c .before .before .before .before .before .before .before .before .loop2 .inv) (c .before .before .before .before .before .before .before .loop2-test .left)
+    (c .before .before .before .before .errors-by .ensures) (c .before .before .before .judge .ensures) (ap judgementNumber (c .before .enum-told4 .given .1))
 
 add-i : tie.Need-add-i Inv-loop2 μ-loop2 Inv-loop μ-loop Inv-card μ-card
 add-i c = omega arith
@@ -278,17 +213,7 @@ card-less : tie.Need-card-less Inv-loop2 μ-loop2 Inv-loop μ-loop Inv-card μ-c
 card-less c = omega arith
 
 card-again : tie.Need-card-again Inv-loop2 μ-loop2 Inv-loop μ-loop Inv-card μ-card
-card-again c =
-    let v = c .before .loop .inv in
-    record {
-      limits = v .limits;
-      stream-most = next-most (v .stream-lt);
-      inside = v .inside;
-      long-counts = v .long-counts;
-      long-checks = v .long-checks;
-      unbroken = v .unbroken;
-      same = sym (checks-end _ _ _ _ _ _ _ _ _ (c .loop-test .left)) ∙ v .same;
-    }
+card-again c = streams-next (c .before .loop .inv) (c .loop-test .left)
 
 -- where the ways out of the streams meet
 settled : (c : tie.Left-card Inv-loop2 μ-loop2 Inv-loop μ-loop Inv-card μ-card) →
