@@ -1,7 +1,6 @@
 // Cards for the bench, drafted byte by byte: those of document 01, "Cards on the bench", and those that its other cases ask for.
 mod document;
 mod longest;
-mod sixteen;
 mod streams;
 
 // What a draft holds at most; the longest card has 1,163 bytes.
@@ -19,26 +18,21 @@ pub(crate) fn named(letter: u8) -> Draft {
     match letter {
         b'P' => document::p(),
         b'Q' => document::q(),
-        b'R' => document::r(34),
-        b'T' => document::t(2),
+        b'R' => document::r(),
+        b'T' => document::t(),
         // P and the longest card without their last bytes.
         b'p' => cut(document::p(), 19),
         b'l' => cut(longest::longest(), 1162),
-        // Q with its first check again for its third, and with s2 as a fourth.
-        b'q' => document::q_with_s0_again(),
-        b's' => document::q_with_s2(),
-        // R with s5 for s1 + s5, T with s2 for s1.
-        b'r' => document::r(32),
-        b't' => document::t(4),
-        // P with m 31 and its terms far apart; P with no generator.
-        b'F' => document::p_reaching_31(),
+        // Q with s2 as a fourth check, P with no generator.
+        b'q' => document::q_with_s2(),
         b'g' => document::p_without_generator(),
         // k 2 and no n: by default n is 2.
         b'n' => of(b"\x01\x01\x02"),
-        // No memory; all eight streams; sixteen checks; the most bytes.
+        // P with m 31 and its terms far apart; no memory; all eight streams; sixteen checks; the most bytes.
+        b'F' => document::p_reaching_31(),
         b'M' => streams::repetition(),
         b'E' => streams::all_eight(),
-        b'S' => sixteen::self_orthogonal(),
+        b'S' => streams::self_orthogonal(),
         b'L' => longest::longest(),
         _ => empty(),
     }
@@ -113,9 +107,4 @@ pub(crate) fn mask(draft: Draft, m: u32) -> Draft {
     let two = byte(one, (m / 256 % 256) as u8);
     let three = byte(two, (m / 0x1_0000 % 256) as u8);
     byte(three, (m / 0x100_0000) as u8)
-}
-
-// A check over one parity stream, whose bit the map is.
-pub(crate) fn check_on(draft: Draft, map: u8, m: u32) -> Draft {
-    mask(byte(draft, map), m)
 }

@@ -27,20 +27,21 @@ pub(crate) fn drafted(fed: &[u8]) -> Draft {
     }
 }
 
-// The starred cases, the rows of `specs/Rows.antt`.
+// The starred cases, the rows of `specs/Rows.antt`. The mask of Q's third check begins at byte 21, that of R's fourth at 26, and that of the
+// second of T's stream 1 at 22.
 fn starred() {
     tables::each(
         Kind::Card,
         b"P|P;\
           Q|Q;\
           R|R;\
-          R with s5 for s1 + s5|r;\
-          Q with s2 as a fourth check|s;\
+          R with s5 for s1 + s5|R\x1a\x20;\
+          Q with s2 as a fourth check|q;\
           T|T;\
-          T with s0, s2 for stream 1|t;\
+          T with s0, s2 for stream 1|T\x16\x04;\
           the first 19 bytes of P|p;\
           P with a zero byte added|P\x00;\
-          Q with s0 again as its third check|q;",
+          Q with s0 again as its third check|Q\x15\x01;",
     );
 }
 

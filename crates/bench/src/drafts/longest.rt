@@ -5,6 +5,7 @@
 // terms and the checks were found by a random search: annealing over the terms, and over the check that each syndrome goes to.
 use crate::drafts;
 use crate::drafts::Draft;
+use crate::lines;
 
 // Of what lies after information stream i, that on parity stream j, as a mask.
 fn gathered(after: &[u8], i: u8, j: usize) -> u32 {
@@ -30,24 +31,7 @@ fn masks(draft: Draft, after: &[u8], i: u8) -> Draft {
 fn generators(draft: Draft, i: u8) -> Draft {
     masks(
         draft,
-        &[
-            0,
-            58,
-            70,
-            87,
-            91,
-            95,
-            99,
-            101,
-            104,
-            108,
-            109,
-            113,
-            119,
-            121,
-            122,
-            123,
-        ],
+        b"\x00\x3a\x46\x57\x5b\x5f\x63\x65\x68\x6c\x6d\x71\x77\x79\x7a\x7b",
         i,
     )
 }
@@ -57,55 +41,44 @@ fn check(draft: Draft, after: &[u8], i: u8) -> Draft {
     masks(drafts::byte(draft, 15), after, i)
 }
 
-fn first_checks(draft: Draft, i: u8) -> Draft {
-    let one = check(draft, &[0, 23, 54, 81], i);
-    let two = check(one, &[15, 40, 53, 58], i);
-    let three = check(two, &[1, 12, 59, 70], i);
-    let four = check(three, &[17, 32, 42, 87], i);
-    let five = check(four, &[16, 21, 74, 91], i);
-    let six = check(five, &[4, 25, 66, 95], i);
-    let seven = check(six, &[20, 29, 41, 62, 78, 82, 99], i);
-    check(seven, &[2, 19, 27, 45, 84, 89, 97, 101], i)
-}
+// What ends a check in the table; no check reaches so far.
+const END: u8 = 255;
 
-fn last_checks(draft: Draft, i: u8) -> Draft {
-    let one = check(draft, &[13, 34, 75, 104], i);
-    let two = check(one, &[7, 11, 38, 50, 69, 79, 83, 108], i);
-    let three = check(two, &[5, 14, 18, 39, 80, 109], i);
-    let four = check(three, &[6, 35, 43, 96, 105, 113], i);
-    let five = check(four, &[10, 28, 48, 49, 76, 77, 90, 94, 106, 119], i);
-    let six = check(
-        five,
-        &[
-            26,
-            30,
-            37,
-            44,
-            51,
-            63,
-            67,
-            72,
-            73,
-            86,
-            92,
-            107,
-            114,
-            118,
-            121,
-        ],
-        i,
-    );
-    let seven = check(six, &[3, 9, 31, 52, 71, 122], i);
-    check(
-        seven,
-        &[8, 22, 24, 33, 36, 57, 65, 102, 103, 111, 115, 123],
-        i,
-    )
+// The checks of a table, one after the other.
+fn checks(draft: Draft, table: &[u8], i: u8) -> Draft {
+    let mut drafted = draft;
+    let mut start: usize = 0;
+    for at in 0..table.len() {
+        if table[at] == END {
+            drafted = check(drafted, lines::part(table, start, at), i);
+            start = at + 1;
+        }
+    }
+    drafted
 }
 
 // J and the checks of an information stream.
 fn stream(draft: Draft, i: u8) -> Draft {
-    last_checks(first_checks(drafts::byte(draft, 16), i), i)
+    checks(
+        drafts::byte(draft, 16),
+        b"\x00\x17\x36\x51\xff\
+          \x0f\x28\x35\x3a\xff\
+          \x01\x0c\x3b\x46\xff\
+          \x11\x20\x2a\x57\xff\
+          \x10\x15\x4a\x5b\xff\
+          \x04\x19\x42\x5f\xff\
+          \x14\x1d\x29\x3e\x4e\x52\x63\xff\
+          \x02\x13\x1b\x2d\x54\x59\x61\x65\xff\
+          \x0d\x22\x4b\x68\xff\
+          \x07\x0b\x26\x32\x45\x4f\x53\x6c\xff\
+          \x05\x0e\x12\x27\x50\x6d\xff\
+          \x06\x23\x2b\x60\x69\x71\xff\
+          \x0a\x1c\x30\x31\x4c\x4d\x5a\x5e\x6a\x77\xff\
+          \x1a\x1e\x25\x2c\x33\x3f\x43\x48\x49\x56\x5c\x6b\x72\x76\x79\xff\
+          \x03\x09\x1f\x34\x47\x7a\xff\
+          \x08\x16\x18\x21\x24\x39\x41\x66\x67\x6f\x73\x7b\xff",
+        i,
+    )
 }
 
 pub(crate) fn longest() -> Draft {

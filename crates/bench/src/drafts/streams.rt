@@ -1,33 +1,42 @@
-// Two cards more for sending and receiving: one with no memory, and one with all eight streams.
+// Three cards more: one with no memory, one with all eight streams, and one with sixteen checks for its stream, the most that may be stated.
+// The lines are as in `document`.
 use crate::drafts;
 use crate::drafts::Draft;
 
 // k 1, n 3, m 0: a digit is sent three times, and its checks are the two syndromes.
 pub(crate) fn repetition() -> Draft {
-    let head = drafts::of(b"\x02\x09\x03\x00\x03\x00");
-    let code = drafts::mask(drafts::mask(head, 1), 1);
-    let first = drafts::check_on(drafts::byte(code, 2), 1, 1);
-    drafts::check_on(first, 2, 1)
+    drafts::of(
+        b"\x02\x09\x03\x00\x03\x00\
+          \x01\x00\x00\x00\x01\x00\x00\x00\x02\
+          \x01\x01\x00\x00\x00\x02\x01\x00\x00\x00",
+    )
 }
 
 // k 4, n 8, m 1: an information stream goes into the parity stream of its own number, and a frame later into the next one, the first after
-// the fourth. The generators are 1 and 2, the generator map is 9c63.
+// the fourth. Its two checks are s0 on the one and s1 on the other.
 pub(crate) fn all_eight() -> Draft {
-    let head = drafts::of(b"\x03\x48\x04\x08\x01\x63\x9c");
-    let one = generators(head, 1, 2);
-    let two = generators(one, 1, 2);
-    let three = generators(two, 1, 2);
-    let four = generators(three, 2, 1);
-    let checked = checks(checks(four, 1, 2), 2, 4);
-    checks(checks(checked, 4, 8), 8, 1)
+    drafts::of(
+        b"\x03\x48\x04\x08\x01\x63\x9c\
+          \x01\x00\x00\x00\x02\x00\x00\x00\x01\x00\x00\x00\x02\x00\x00\x00\
+          \x01\x00\x00\x00\x02\x00\x00\x00\x02\x00\x00\x00\x01\x00\x00\x00\
+          \x02\x01\x01\x00\x00\x00\x02\x02\x00\x00\x00\
+          \x02\x02\x01\x00\x00\x00\x04\x02\x00\x00\x00\
+          \x02\x04\x01\x00\x00\x00\x08\x02\x00\x00\x00\
+          \x02\x08\x01\x00\x00\x00\x01\x02\x00\x00\x00",
+    )
 }
 
-fn generators(draft: Draft, low: u32, high: u32) -> Draft {
-    drafts::mask(drafts::mask(draft, low), high)
-}
-
-// The two checks of a stream: s0 on the parity stream of its own number, s1 on the next one.
-fn checks(draft: Draft, own: u8, next: u8) -> Draft {
-    let first = drafts::check_on(drafts::byte(draft, 2), own, 1);
-    drafts::check_on(first, next, 2)
+// k by default, n 8, m 11. The terms of the seven generators are 0, 5, 11; 0, 3, 10; 0, 1; 0, 2; 0, 4; 0, 8; 0, 9: no two of their
+// differences are equal, so that each term by itself is a check. J is byte 34.
+pub(crate) fn self_orthogonal() -> Draft {
+    drafts::of(
+        b"\x02\x10\x08\x0b\x7f\x00\
+          \x21\x08\x00\x00\x09\x04\x00\x00\x03\x00\x00\x00\x05\x00\x00\x00\
+          \x11\x00\x00\x00\x01\x01\x00\x00\x01\x02\x00\x00\x10\
+          \x01\x01\x00\x00\x00\x01\x20\x00\x00\x00\x01\x00\x08\x00\x00\
+          \x02\x01\x00\x00\x00\x02\x08\x00\x00\x00\x02\x00\x04\x00\x00\
+          \x04\x01\x00\x00\x00\x04\x02\x00\x00\x00\x08\x01\x00\x00\x00\x08\x04\x00\x00\x00\
+          \x10\x01\x00\x00\x00\x10\x10\x00\x00\x00\x20\x01\x00\x00\x00\x20\x00\x01\x00\x00\
+          \x40\x01\x00\x00\x00\x40\x00\x02\x00\x00",
+    )
 }
