@@ -1,6 +1,6 @@
 -- Massey's majority rule with feedback on whole streams: document 01, "Checks".
 -- `frames` are the received frames from time 0 on, `errors` the decided errors of the frames before the one that is decided, a digit for each
--- information stream; both are lists of frames as in the code (`card`, `Code`).
+-- information stream; both are lists of frames as in the code (`code`, `Code`).
 -- Assumes nothing.
 use Prim.Native.Nat.{ℕ, zero, suc, _+_, _-_, _*_, _%_}
 use mathlib.Core.Bool.{cond}

@@ -1,21 +1,15 @@
 -- The loop has taken the frame into the registers of the parity streams that it passed.
-use Prim.Native.Nat.{ℕ, _-_, _%_, _^_, _≤_, _<_}
-use mathlib.Core.Path.{_≡_, refl, _∙_}
+use Prim.Native.Nat.{_-_}
+use mathlib.Core.Path.{refl, _∙_}
 use native.Mathlib.Omega.{arith}
 use borrow.Author.Needs.{needs}
 use Rattle.bits.specs.Sums.{upTo}
-use Rattle.bits.proofs.Lists.{part-step, part-end}
-use Rattle.burst.specs.Registers.{comingNext, syndromesNext, written}
-use Rattle.burst.proofs.TakingIn.{parity-is, coming-step, register-is, none-more}
+use Rattle.burst.proofs.TakingIn.{TakingIn, taking-more, taken-whole}
 use Rattle.burst.proofs.registers.take_in.Statement.{statement}
 use Rattle.burst.proofs.registers.take_in.Tie as tie
 
 abbrev Inv-loop : tie.InvT-loop
-Inv-loop syndromes₀ coming₀ sums k p m frame at parities held₀ j₀ syndromes coming held j =
-    (j ≤ p)
-    × (coming ≡ written j (comingNext sums coming₀ k frame) coming₀)
-    × (syndromes ≡ written j (syndromesNext sums coming₀ syndromes₀ k m frame) syndromes₀)
-    × (held ≡ 0 → (b : ℕ) → b < j → syndromesNext sums coming₀ syndromes₀ k m frame b ≡ 0)
+Inv-loop syndromes₀ coming₀ sums k p m frame at parities held₀ j₀ syndromes coming held j = TakingIn sums coming₀ syndromes₀ k p m frame syndromes coming held j
 
 abbrev μ-loop : tie.MeasureT-loop
 μ-loop syndromes₀ coming₀ sums k p m frame at parities held₀ j₀ syndromes coming held j = p - j
@@ -40,7 +34,7 @@ shr-parities c = search needs
 
 loop-holds : tie.Need-loop-holds Inv-loop μ-loop
 unfolding upTo
-loop-holds c = (omega arith, refl, refl, λ _ b l. absurd (omega arith))
+loop-holds c = record { most = omega arith; coming-is = refl; syndromes-is = refl; none-held = λ _ b l. absurd (omega arith) }
 
 mul-parity : tie.Need-mul-parity Inv-loop μ-loop
 mul-parity c = search needs
@@ -92,31 +86,14 @@ loop-less c = search needs
 
 loop-again : tie.Need-loop-again Inv-loop μ-loop
 loop-again c =
-    let l = c .before .before .before .before .before .loop in
     let s = c .before .before .before .before .before .before .before in
     let i = c .before .before .before .before .before .before .before .before in
-    let a = i .before .args in
-    let f = a .frame in
-    let at : s .index .result ≡ f % 2 ^ a .k = s .index .ensures ∙ i .information .ensures .0 in
-    let p = parity-is (a .sums .now) (a .coming .now) (a .k) f (l .j) (l .inv .1) at in
-    let y =
-    c .put-in .ensures
-    ∙ register-is (a .sums .now) (a .coming .now) (a .syndromes .now) (a .k) (a .m) f (l .j) p (l .inv .2) (c .before .before .before .before .before .before .wide .ensures .0) in (
-      omega arith,
-      part-step (comingNext (a .sums .now) (a .coming .now) (a .k) f) (a .coming .now) (l .j) (l .coming) _ (omega arith) (l .inv .1) (coming-step (a .sums .now) (a .coming .now) (a .k) f (l .j) p),
-      part-step (syndromesNext (a .sums .now) (a .coming .now) (a .syndromes .now) (a .k) (a .m) f) (a .syndromes .now) (l .j) (l .syndromes) _ (omega arith) (l .inv .2) y,
-      none-more (syndromesNext (a .sums .now) (a .coming .now) (a .syndromes .now) (a .k) (a .m) f) (l .j) (l .held) y (l .inv .3),
-    )
+    let h = i .before .pre in
+    taking-more (c .before .before .before .before .before .loop .inv) (c .before .before .before .before .loop-test .taken) (h .0 .1) (h .1 .0) (h .1 .1)
+    (s .index .ensures ∙ i .information .ensures .0) (c .before .before .before .before .before .before .wide .ensures .0) (c .put-in .ensures)
 
 returns : tie.Need-returns Inv-loop μ-loop
-returns c =
-    let l = c .before .loop in
-    let a = c .before .before .before .before .before .args in
-    record {
-      coming-is = l .inv .1 ∙ part-end _ (a .coming .now) (l .inv .0) (c .loop-test .left);
-      syndromes-is = l .inv .2 ∙ part-end _ (a .syndromes .now) (l .inv .0) (c .loop-test .left);
-      none-held = λ e b q. l .inv .3 e b (omega arith);
-    }
+returns c = taken-whole (c .before .loop .inv) (c .loop-test .left)
 
 pub take-in-spec : {M : Type 1} → statement M
 take-in-spec =
