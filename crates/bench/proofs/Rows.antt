@@ -8,8 +8,8 @@ use Rattle.card.specs.Fields.{store, storeRows, storeChecks, storeStreams, stor
 use Rattle.card.specs.Reading.{byteField, kField, nField, mapField, wordAt, maskField, readHead, standingMask, readMasks, readRows, readGenerators, otherError, touchedBy, clashes, judge, readCheck, readChecks, readStreams, readFields, readCard}
 use Rattle.majority.specs.Rule.{syndrome, cleared, checkAt, votes, decide, decideFrame, decided, corrected, decoded}
 use Rattle.decoder.specs.Calls.{answersBy}
-use Rattle.burst.specs.Outcome.{refusedOf, givenOf, underCard}
-use Rattle.burst.specs.Receiving.{receiveUnder, receiveOf}
+use Rattle.outcomes.specs.Outcome.{refusedOf, givenOf, underCard}
+use Rattle.outcomes.specs.Receiving.{receiveUnder, receiveOf}
 use Rattle.bench.specs.Cards.{checks}
 use Rattle.bench.specs.Rows.{Rows}
 

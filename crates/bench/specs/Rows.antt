@@ -13,7 +13,7 @@ use Rattle.card.specs.Reading.{readCard}
 use Rattle.majority.specs.Rule.{decoded}
 use Rattle.decoder.specs.Answers.{waiting}
 use Rattle.decoder.specs.Calls.{answersBy}
-use Rattle.burst.specs.Receiving.{receiveOf}
+use Rattle.outcomes.specs.Receiving.{receiveOf}
 use Rattle.bench.specs.Cards.{s, cardP, cardQ, cardR, cardT}
 
 pub record Rows : Type 0 where

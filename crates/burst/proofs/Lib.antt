@@ -1,5 +1,4 @@
 pub mod Answers
-pub mod Outcomes
 pub mod Sending
 pub mod TakingIn
 pub mod Coming
@@ -7,4 +6,3 @@ pub mod Following
 pub mod Deciding
 pub mod Waiting
 pub mod HandingOut
-pub mod Received

@@ -12,7 +12,7 @@ use Rattle.code.specs.Registers.{historyBy, frameBy}
 use Rattle.code.specs.declared.Card.{Card}
 use Rattle.code.proofs.Registers.{HistoryBefore}
 use Rattle.code.proofs.Sending.{turn-history, turn-frame}
-use Rattle.burst.specs.Sending.{Names}
+use Rattle.burst.specs.Names.{Names}
 
 -- before time `at`: the registers hold the digits so far, and the output the frames so far
 abbrev pub SentBefore : Card → List ℕ → List ℕ → ℕ → List ℕ → List ℕ → Type 0

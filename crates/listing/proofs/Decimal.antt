@@ -8,7 +8,7 @@ use native.Mathlib.Omega.{arith}
 use lib.ListN.{length, length-append}
 use borrow.Author.Tests.{lt-ltb, le-ltb}
 use Rattle.bits.proofs.Cases.{le-or-lt}
-use Rattle.listing.specs.Text.{glyph, decimalWithin, decimal}
+use Rattle.outcomes.specs.Text.{glyph, decimalWithin, decimal}
 
 one-digit : (places n : ℕ) → n < 10 → decimalWithin places n ≡ glyph n ∷ []
 unfolding decimalWithin

@@ -13,10 +13,10 @@ use Rattle.card.specs.Reading.{readCard}
 use Rattle.code.specs.declared.Card.{Card}
 use Rattle.majority.specs.Rule.{decoded}
 use Rattle.majority.proofs.Streams.{decoded-length}
-use Rattle.burst.specs.Claims.{Admitted}
-use Rattle.burst.specs.Outcome.{BurstOutcome, outcome, givenOf, underCard}
-use Rattle.burst.specs.Receiving.{receiveUnder, receiveOf}
-use Rattle.burst.proofs.Received.{receive-given}
+use Rattle.outcomes.specs.Claims.{Admitted}
+use Rattle.outcomes.specs.Outcome.{BurstOutcome, outcome, givenOf, underCard}
+use Rattle.outcomes.specs.Receiving.{receiveUnder, receiveOf}
+use Rattle.outcomes.proofs.Received.{receive-given}
 use Rattle.listing.specs.Written.{HandsOut, ReadAs}
 
 module _ (card frames buffer : List ℕ) (A : Admitted card frames buffer) where

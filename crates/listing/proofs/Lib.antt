@@ -2,7 +2,5 @@ pub mod Writing
 pub mod Decimal
 pub mod LineParts
 pub mod Room
-pub mod Beyond
 pub mod HandedOut
-pub mod Listings
-pub mod Example
+pub mod Listed

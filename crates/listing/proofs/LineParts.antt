@@ -11,8 +11,8 @@ use Rattle.bits.specs.Sums.{upTo}
 use Rattle.bits.specs.Digits.{bit}
 use Rattle.bits.proofs.Digits.{bit-lt}
 use Rattle.bits.proofs.Lists.{upTo-more}
-use Rattle.listing.specs.Text.{text, decimal, spaced, line}
-use Rattle.listing.specs.Listing.{tooLongLine, refusedLine, cardLine, frameLine, frameLines, endLine}
+use Rattle.outcomes.specs.Text.{text, decimal, spaced, line}
+use Rattle.outcomes.specs.Listing.{tooLongLine, refusedLine, cardLine, frameLine, frameLines, endLine}
 use Rattle.listing.proofs.Decimal.{decimal-digit, decimal-length}
 
 pub too-long-line : text "input too long\n" ≡ tooLongLine

@@ -6,7 +6,7 @@ use native.Mathlib.Omega.{arith}
 use lib.ListN.{length}
 use Rattle.code.specs.Guarantees.{Guarantees}
 use Rattle.code.specs.declared.Card.{Card}
-use Rattle.listing.specs.Listing.{cardLine, frameLines, endLine}
+use Rattle.outcomes.specs.Listing.{cardLine, frameLines, endLine}
 use Rattle.listing.proofs.LineParts.{card-length, lines-length, end-length}
 
 module _ (c : Card) (G : Guarantees c) (lines : List ℕ) (few : length lines ≤ 32768) {first : ℕ}

@@ -4,7 +4,7 @@ use Prim.Native.Nat.{ℕ, _≤_}
 use mathlib.Core.Path.{_≡_}
 use mathlib.Core.List.{List, _++_}
 use lib.ListN.{length, take, drop}
-use Rattle.listing.specs.Listing.{listing}
+use Rattle.outcomes.specs.Listing.{listing}
 
 pub record Lists (input output : List ℕ) (count : ℕ) (after : List ℕ) : Type 0 where
   -- the count of the listing's bytes ..

@@ -3,7 +3,7 @@ ghost use mathlib.Core.Path.{_≡_};
 ghost use mathlib.Core.List.{[], _∷_, _++_};
 ghost use Prim.Native.Nat.{_+_, _≤_, _<_};
 ghost use lib.ListN.{length};
-ghost use Rattle.listing.specs.Text.{glyph, decimal};
+ghost use Rattle.outcomes.specs.Text.{glyph, decimal};
 ghost use Rattle.listing.specs.Written.{Wrote};
 
 fn byte(output: &mut [u8], at: usize, value: u8) -> usize

@@ -1,6 +1,6 @@
 -- The listing's bytes are at the front of the output.
 use borrow.Author.Needs.{needs}
-use Rattle.listing.proofs.Listings.{listed-within, listed-length}
+use Rattle.listing.proofs.Listed.{listed-within, listed-length}
 use Rattle.list.proofs.main.Statement.{statement}
 use Rattle.list.proofs.main.Tie as tie
 

@@ -3,8 +3,8 @@ use Prim.Native.Nat.{_+_, _-_, _≤_}
 use mathlib.Core.Path.{_≡_, sym, _∙_}
 use native.Mathlib.Omega.{arith}
 use lib.ListN.{length, drop}
-use Rattle.listing.specs.Listing.{firstBeyond}
-use Rattle.listing.proofs.Beyond.{beyond-here, beyond-later, beyond-nowhere}
+use Rattle.outcomes.specs.Listing.{firstBeyond}
+use Rattle.outcomes.proofs.Beyond.{beyond-here, beyond-later, beyond-nowhere}
 use Rattle.listing.proofs.first_beyond.Statement.{statement}
 use Rattle.listing.proofs.first_beyond.Tie as tie
 

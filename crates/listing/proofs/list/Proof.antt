@@ -5,8 +5,9 @@ use mathlib.Core.List.{List}
 use native.Mathlib.Omega.{arith}
 use lib.ListN.{length}
 use Rattle.card.specs.Reading.{readCard}
-use Rattle.listing.specs.Listing.{listingUnder}
-use Rattle.listing.proofs.Listings.{card-too-long, frames-too-long, short-enough, card-bytes, frame-bytes, lists}
+use Rattle.outcomes.specs.Listing.{listingUnder}
+use Rattle.outcomes.proofs.Listings.{card-too-long, frames-too-long, short-enough, card-bytes, frame-bytes}
+use Rattle.listing.proofs.Listed.{lists}
 use borrow.Author.Needs.{needs}
 use Rattle.listing.proofs.list.Statement.{statement}
 use Rattle.listing.proofs.list.Tie as tie

@@ -2,9 +2,9 @@ use Prim.Native.Nat.{_+_, _≤_, _<_}
 use mathlib.Core.Path.{sym, ap, subst, _∙_}
 use native.Mathlib.Omega.{arith}
 use lib.ListN.{length}
-use Rattle.listing.specs.Listing.{refusedLine}
-use Rattle.listing.proofs.Beyond.{beyond-none}
-use Rattle.listing.proofs.Listings.{beyond-streams, within-streams}
+use Rattle.outcomes.specs.Listing.{refusedLine}
+use Rattle.outcomes.proofs.Beyond.{beyond-none}
+use Rattle.outcomes.proofs.Listings.{beyond-streams, within-streams}
 use Rattle.listing.proofs.Writing.{whole-as}
 use borrow.Author.Needs.{needs}
 use Rattle.listing.proofs.list_frames.Statement.{statement}

@@ -1,7 +1,7 @@
 use mathlib.Core.Path.{sym, ap, _∙_}
 use native.Mathlib.Omega.{arith}
 use Rattle.card.specs.Outcome.{Outcome, outcomeOf, CardOutcome}
-use Rattle.listing.specs.Listing.{listingUnder}
+use Rattle.outcomes.specs.Listing.{listingUnder}
 use Rattle.listing.proofs.Writing.{whole-as}
 use borrow.Author.Needs.{needs}
 use Rattle.listing.proofs.list_parts.Statement.{statement}

@@ -7,9 +7,9 @@ use lib.ListN.{length, take, replicate, length-replicate}
 use Rattle.card.specs.Reading.{readCard}
 use Rattle.code.specs.declared.Card.{Card}
 use Rattle.majority.specs.Rule.{decoded}
-use Rattle.listing.specs.Listing.{cardLine, frameLines, endLine}
+use Rattle.outcomes.specs.Listing.{cardLine, frameLines, endLine}
 use Rattle.listing.proofs.HandedOut.{admitted, handed-count, handed-within, handed-few}
-use Rattle.listing.proofs.Listings.{put-together}
+use Rattle.outcomes.proofs.Listings.{put-together}
 use Rattle.listing.proofs.Room.{room-for-lines, room-for-end, room-for-all}
 use Rattle.listing.proofs.Writing.{wrote-as, wrote-both}
 use borrow.Author.Needs.{needs}

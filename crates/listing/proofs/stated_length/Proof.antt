@@ -1,7 +1,7 @@
 use native.Mathlib.Omega.{arith}
 use lib.ListN.{length}
 use borrow.Author.Tests.{lt-leb, le-leb}
-use Rattle.listing.specs.Listing.{statedLength}
+use Rattle.outcomes.specs.Listing.{statedLength}
 use borrow.Author.Needs.{needs}
 use Rattle.listing.proofs.stated_length.Statement.{statement}
 use Rattle.listing.proofs.stated_length.Tie as tie

@@ -1,6 +1,6 @@
 -- `bench::listed::listed` is safe: the listing's bytes are at the front of the output. Assumes nothing.
 use borrow.Author.Needs.{needs}
-use Rattle.listing.proofs.Listings.{listed-within, listed-length}
+use Rattle.listing.proofs.Listed.{listed-within, listed-length}
 use Rattle.bench.proofs.listed.listed.Statement.{statement}
 use Rattle.bench.proofs.listed.listed.Tie as tie
 

@@ -3,9 +3,9 @@ use mathlib.Core.Path.{refl, ap, _∙_}
 use lib.IntN.{ℤ}
 use borrow.Author.Needs.{needs}
 use Rattle.card.specs.Outcome.{outcomeOf}
-use Rattle.burst.specs.Outcome.{outcome}
+use Rattle.outcomes.specs.Outcome.{outcome}
 use Rattle.burst.proofs.Answers.{answer-is}
-use Rattle.burst.proofs.Received.{received-under, received-refused, received}
+use Rattle.outcomes.proofs.Received.{received-under, received-refused, received}
 use Rattle.burst.proofs.receive.burst_receive.Statement.{statement}
 use Rattle.burst.proofs.receive.burst_receive.Tie as tie
 

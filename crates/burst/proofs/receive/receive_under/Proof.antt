@@ -9,8 +9,8 @@ use Rattle.code.specs.Checks.{count}
 use Rattle.majority.specs.Rule.{decoded}
 use Rattle.majority.proofs.Streams.{decoded-length}
 use Rattle.burst.proofs.Answers.{answer-is}
-use Rattle.burst.proofs.Outcomes.{refused-is, given-is}
-use Rattle.burst.proofs.Received.{receive-full, receive-short, receive-beyond, receive-given}
+use Rattle.outcomes.proofs.Outcomes.{refused-is, given-is}
+use Rattle.outcomes.proofs.Received.{receive-full, receive-short, receive-beyond, receive-given}
 use Rattle.burst.proofs.receive.receive_under.Statement.{statement}
 use Rattle.burst.proofs.receive.receive_under.Tie as tie
 

@@ -2,9 +2,9 @@ use mathlib.Core.Path.{refl, ap, _∙_}
 use lib.IntN.{ℤ}
 use borrow.Author.Needs.{needs}
 use Rattle.card.specs.Outcome.{outcomeOf}
-use Rattle.burst.specs.Outcome.{outcome}
+use Rattle.outcomes.specs.Outcome.{outcome}
 use Rattle.burst.proofs.Answers.{answer-is}
-use Rattle.burst.proofs.Outcomes.{sent-under, refused-by-card}
+use Rattle.outcomes.proofs.Outcomes.{sent-under, refused-by-card}
 use Rattle.burst.proofs.send.burst_send.Statement.{statement}
 use Rattle.burst.proofs.send.burst_send.Tie as tie
 

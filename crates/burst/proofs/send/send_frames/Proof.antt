@@ -9,7 +9,7 @@ use Rattle.code.specs.Code.{withTail}
 use Rattle.code.specs.declared.Card.{Card}
 use Rattle.code.proofs.Registers.{frame-fits}
 use Rattle.code.proofs.Registers.{history-start}
-use Rattle.burst.specs.Sending.{Names}
+use Rattle.burst.specs.Names.{Names}
 use Rattle.burst.proofs.Sending.{SentBefore, sent-turn, sent-end}
 use Rattle.burst.proofs.send.send_frames.Statement.{statement}
 use Rattle.burst.proofs.send.send_frames.Tie as tie

@@ -5,9 +5,9 @@ use lib.ListN.{length}
 use borrow.Author.Needs.{needs}
 use Rattle.code.specs.Code.{sent}
 use Rattle.code.proofs.Sent.{sent-length}
-use Rattle.burst.specs.Sending.{Names}
+use Rattle.burst.specs.Names.{Names}
 use Rattle.burst.proofs.Answers.{answer-is}
-use Rattle.burst.proofs.Outcomes.{refused-is, given-is, under-full, under-short, under-beyond, under-sent}
+use Rattle.outcomes.proofs.Outcomes.{refused-is, given-is, under-full, under-short, under-beyond, under-sent}
 use Rattle.burst.proofs.send.send_under.Statement.{statement}
 use Rattle.burst.proofs.send.send_under.Tie as tie
 

@@ -4,7 +4,7 @@ use mathlib.Core.Path.{_≡_, ap}
 use native.Mathlib.Omega.{arith}
 use lib.ListN.{length, take}
 use lib.Seq.{take-all, length-take-le}
-use Rattle.listing.specs.Listing.{frameLines}
+use Rattle.outcomes.specs.Listing.{frameLines}
 use Rattle.listing.specs.Written.{Wrote}
 use Rattle.listing.proofs.LineParts.{frames-next, lines-length}
 use Rattle.listing.proofs.Writing.{wrote-nothing, wrote-as, wrote-both, wrote-length}

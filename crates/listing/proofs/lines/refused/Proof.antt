@@ -2,8 +2,8 @@
 use Prim.Native.Nat.{ℕ}
 use mathlib.Core.Path.{ap, _∙_}
 use native.Mathlib.Omega.{arith}
-use Rattle.listing.specs.Text.{text}
-use Rattle.listing.specs.Listing.{refusedLine}
+use Rattle.outcomes.specs.Text.{text}
+use Rattle.outcomes.specs.Listing.{refusedLine}
 use Rattle.listing.proofs.Decimal.{decimal-length}
 use Rattle.listing.proofs.LineParts.{refused-line}
 use Rattle.listing.proofs.Writing.{wrote-as, wrote-both}

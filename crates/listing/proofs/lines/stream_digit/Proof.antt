@@ -2,7 +2,7 @@ use Prim.Native.Nat.{ℕ}
 use mathlib.Core.Path.{ap}
 use mathlib.Core.List.{_++_}
 use native.Mathlib.Omega.{arith}
-use Rattle.listing.specs.Text.{text, decimal}
+use Rattle.outcomes.specs.Text.{text, decimal}
 use Rattle.listing.proofs.Decimal.{decimal-length}
 use Rattle.listing.proofs.Writing.{wrote-as}
 use borrow.Author.Needs.{needs}

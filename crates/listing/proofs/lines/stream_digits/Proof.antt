@@ -6,7 +6,7 @@ use native.Mathlib.Nat.{le-antisymm}
 use native.Mathlib.Omega.{arith}
 use Rattle.bits.specs.Sums.{upTo}
 use Rattle.bits.specs.Digits.{bit}
-use Rattle.listing.specs.Text.{decimal, spaced}
+use Rattle.outcomes.specs.Text.{decimal, spaced}
 use Rattle.listing.specs.Written.{Wrote}
 use Rattle.listing.proofs.LineParts.{digits-next, digits-length}
 use Rattle.listing.proofs.Writing.{wrote-nothing, wrote-as, wrote-both, wrote-length}

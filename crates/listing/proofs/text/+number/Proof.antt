@@ -4,7 +4,7 @@ use mathlib.Core.List.{[], _∷_, _++_}
 use Prim.Native.Nat.{_/_, _%_}
 use native.Mathlib.Omega.{arith}
 use lib.ListN.{length, length-append}
-use Rattle.listing.specs.Text.{glyph, decimal}
+use Rattle.outcomes.specs.Text.{glyph, decimal}
 use Rattle.listing.proofs.Decimal.{decimal-digit, decimal-last}
 use Rattle.listing.proofs.Writing.{wrote-both, wrote-as}
 use Prim.Native.Nat.{ℕ, _<_}

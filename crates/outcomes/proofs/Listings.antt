@@ -15,11 +15,8 @@ use Rattle.card.specs.Outcome.{accepted}
 use Rattle.card.specs.Reading.{readCard}
 use Rattle.code.specs.declared.Card.{Card}
 use Rattle.majority.specs.Rule.{decoded}
-use Rattle.listing.specs.Listing.{statedLength, cardBytes, frameBytes, tooLong, tooLongLine, refusedLine, cardLine, frameLines, endLine, firstBeyond, listingOf, listingUnder, listing}
-use Rattle.listing.specs.Promise.{Lists}
-use Rattle.listing.specs.Written.{WroteWhole}
-use Rattle.listing.proofs.Beyond.{beyond-some}
-use Rattle.listing.proofs.Writing.{wrote-front}
+use Rattle.outcomes.specs.Listing.{statedLength, cardBytes, frameBytes, tooLong, tooLongLine, refusedLine, cardLine, frameLines, endLine, firstBeyond, listingOf, listingUnder, listing}
+use Rattle.outcomes.proofs.Beyond.{beyond-some}
 
 -- ---- the input's length
 
@@ -112,24 +109,3 @@ front-decides whole =
     (λ (l : length whole ≤ 34819). ap listing (sym (take-all 34819 whole l)))
     (λ (l : 34819 < length whole). too-long-both whole l)
     (le-or-lt (length whole) 34819)
-
--- ---- the promise, from what was written
-
-pub lists : {after text : List ℕ} {r most : ℕ} (input output : List ℕ) → listing input ≡ text → WroteWhole most output text after r → most ≤ 458784
-    → 458784 ≤ length output → Lists input output r after
-lists {text = text} input output e w l o =
-    let fits : length text ≤ length output = omega (arith, w .wrote .end-is, w .within) in
-    record {
-      count-is = omega (arith, w .wrote .end-is, ap length e);
-      text-is = wrote-front (w .wrote) fits ∙ ap (λ s. s ++ drop (length s) output) (sym e);
-      within = omega (arith, w .within);
-      by-the-front = λ whole q. front-decides whole ∙ ap listing (sym q);
-    }
-
--- the listing's bytes are within the output
-pub listed-within : {input output after : List ℕ} {count : ℕ} → Lists input output count after → count ≤ length after
-listed-within {input} {output} w =
-    omega (arith, w .count-is, ap length (w .text-is), length-append (listing input) (drop (length (listing input)) output))
-
-pub listed-length : {input output after : List ℕ} {count : ℕ} → Lists input output count after → count ≡ length (take count after)
-listed-length {after = after} {count} w = sym (length-take-le count after (listed-within w))

@@ -17,10 +17,10 @@ use Rattle.card.specs.declared.CardRead.{CardRead}
 use Rattle.majority.specs.Rule.{decoded}
 use Rattle.majority.proofs.Streams.{decoded-length}
 use Rattle.majority.proofs.Theorem.{decoded-as-sent}
-use Rattle.burst.specs.Outcome.{BurstOutcome, outcome, refusedOf, givenOf, underCard}
-use Rattle.burst.specs.Receiving.{receiveUnder, receiveOf}
-use Rattle.burst.specs.Claims.{Admitted, CameOut, ComesOutAsSent}
-use Rattle.burst.proofs.Outcomes.{refused-is}
+use Rattle.outcomes.specs.Outcome.{BurstOutcome, outcome, refusedOf, givenOf, underCard}
+use Rattle.outcomes.specs.Receiving.{receiveUnder, receiveOf}
+use Rattle.outcomes.specs.Claims.{Admitted, CameOut, ComesOutAsSent}
+use Rattle.outcomes.proofs.Outcomes.{refused-is}
 
 module _ (c : Card) (input output : List ℕ) where
   pub receive-full : 1048576 < length input → receiveUnder c input output ≡ refusedOf 15 output

@@ -14,8 +14,8 @@ use Rattle.card.specs.Reading.{readCard}
 use Rattle.code.specs.declared.Card.{Card}
 use Rattle.card.specs.declared.CardRead.{CardRead}
 use Rattle.code.proofs.Sent.{sent-length}
-use Rattle.burst.specs.Outcome.{BurstOutcome, outcome, refusedOf, givenOf, underCard}
-use Rattle.burst.specs.Sending.{sendUnder, sendOf}
+use Rattle.outcomes.specs.Outcome.{BurstOutcome, outcome, refusedOf, givenOf, underCard}
+use Rattle.outcomes.specs.Sending.{sendUnder, sendOf}
 
 pub refused-is : {answer : ℤ} (n : ℕ) (output : List ℕ) → answer ≡ negℤ (pos n) → outcome answer output ≡ refusedOf n output
 unfolding refusedOf

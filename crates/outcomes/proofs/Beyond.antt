@@ -9,7 +9,7 @@ use lib.ListN.{length, getD, drop, drop-of-length-le}
 use lib.Seq.{drop-cons}
 use lib.Dec.{leb}
 use Rattle.bits.specs.Digits.{anyBeyond}
-use Rattle.listing.specs.Listing.{firstBeyond}
+use Rattle.outcomes.specs.Listing.{firstBeyond}
 
 -- ---- frames of which a loop has passed the first `time`
 module _ (n : ℕ) (frames : List ℕ) (time : ℕ) where

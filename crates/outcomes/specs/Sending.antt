@@ -1,17 +1,15 @@
 -- What sending a burst comes to, for every input: document 01, "The code", "Readings and bursts" and "Orders".
 -- Assumes nothing.
 use Prim.Native.Nat.{ℕ}
-use mathlib.Core.Path.{_≡_}
 use mathlib.Core.Bool.{cond}
 use mathlib.Core.List.{List}
 use lib.ListN.{length}
 use lib.Dec.{ltb}
 use Rattle.bits.specs.Digits.{anyBeyond}
 use Rattle.code.specs.Code.{sent}
-use Rattle.code.specs.Guarantees.{Guarantees}
 use Rattle.card.specs.Reading.{readCard}
 use Rattle.code.specs.declared.Card.{Card}
-use Rattle.burst.specs.Outcome.{BurstOutcome, refusedOf, givenOf, underCard}
+use Rattle.outcomes.specs.Outcome.{BurstOutcome, refusedOf, givenOf, underCard}
 
 -- under the card c: "15 by length (sent frames with tail), 13, 11"
 unfoldable pub sendUnder : Card → List ℕ → List ℕ → BurstOutcome
@@ -24,11 +22,3 @@ sendUnder c input output =
 -- with the card's bytes
 unfoldable pub sendOf : List ℕ → List ℕ → List ℕ → BurstOutcome
 sendOf card input output = underCard (readCard card .outcome) (sendUnder (readCard card .card) input output) output
-
--- the accepted card c has this table of generators, k information and p parity streams and memory m
-pub record Names (c : Card) (generators : List ℕ) (k p m : ℕ) : Type 0 where
-  pub guaranteed : Guarantees c
-  pub generators-are : generators ≡ c .generators
-  pub k-is : k ≡ c .k
-  pub p-is : p ≡ c .p
-  pub m-is : m ≡ c .m

@@ -9,8 +9,8 @@ use Rattle.code.specs.Checks.{count, checkMask, touchesInfo, touchesBy}
 use Rattle.card.specs.Fields.{store, storeRows, storeChecks, storeStreams, storeCounts, cardOf}
 use Rattle.card.specs.Reading.{byteField, kField, nField, mapField, wordAt, maskField, readHead, standingMask, readMasks, readRows, readGenerators, otherError, touchedBy, clashes, judge, readCheck, readChecks, readStreams, readFields, readCard}
 use Rattle.majority.specs.Rule.{syndrome, cleared, checkAt, votes, decide, decideFrame, decided, corrected, decoded}
-use Rattle.listing.specs.Text.{text, decimalWithin, decimal, spaced, line}
-use Rattle.listing.specs.Listing.{statedLength, cardBytes, frameBytes, tooLong, cardLine, frameLine, frameLines, endLine, listingOf, listingUnder, listing}
+use Rattle.outcomes.specs.Text.{text, decimalWithin, decimal, spaced, line}
+use Rattle.outcomes.specs.Listing.{statedLength, cardBytes, frameBytes, tooLong, cardLine, frameLine, frameLines, endLine, listingOf, listingUnder, listing}
 
 abbrev pub cardP : List ℕ
 cardP =

@@ -1,0 +1,6 @@
+pub mod Outcome
+pub mod Sending
+pub mod Receiving
+pub mod Claims
+pub mod Text
+pub mod Listing
