@@ -7,17 +7,17 @@ use native.Mathlib.Nat.{div-lt-iff-lt-mul, pow-succ'}
 use native.Mathlib.Numerals.{add-one}
 use native.Mathlib.Omega.{arith}
 use lib.ListN.{length, getD}
-use lib.Dec.{leb, eqb}
+use lib.Dec.{leb}
 use lib.Pow.{pow-pos}
 use borrow.Author.Tests.{ne-eqb}
 use Rattle.bits.proofs.Cases.{picked}
 use Rattle.card.specs.Fields.{Stream, Fields, codeOf}
-use Rattle.card.specs.Reading.{kField, nField, mapField, standingMask, readMasks, readRows, readGenerators, readChecks, readStreams, readFields}
+use Rattle.card.specs.Reading.{kField, nField, mapField, readMasks, readRows, readGenerators, readChecks, readStreams, readFields}
 use Rattle.card.specs.Reading.Field.{value, bad}
 use Rattle.card.specs.Reading.Read.{got}
 use Rattle.card.specs.Layout.{MasksIn, AllMasksIn, AllStreamsIn, InLimits}
 use Rattle.code.specs.declared.Card.{Card}
-use Rattle.card.proofs.FieldValues.{not-value, value-same, byte-is, k-is, n-is, mask-is}
+use Rattle.card.proofs.FieldValues.{not-value, value-same, byte-is, k-is, n-is, standing-within}
 use Rattle.card.proofs.ReadParts.{got-what, field-got, next-got, map-got, head-is}
 use Rattle.card.proofs.Standing.{ChecksStand}
 use Rattle.card.proofs.Orthogonality.{AllStand}
@@ -31,14 +31,6 @@ pub top-of-within : (v m : ℕ) → v < 2 ^ (m + 1) → v / 2 ^ m ≤ 1
 top-of-within v m h = let q = div-lt-iff-lt-mul {y = 2} (pow-pos m) .1 (rw (add-one, pow-succ') at h) in omega arith
 
 -- ---- masks
-standing-within : (bs : List ℕ) (at m d v : ℕ) → standingMask bs at m d ≡ value v → v < 2 ^ (m + 1)
-unfolding standingMask
-standing-within bs at m d v e =
-    ⊎-elim
-    (λ w. within-of-top v m (mask-is bs at m v (w .1) .within))
-    (λ w. rw (sym (value-same (w .1))) (pow-pos (m + 1)))
-    (picked (eqb d 1) e)
-
 masks-none : (m : ℕ) → MasksIn 0 m []
 masks-none m = record { many = refl; within = λ j. pow-pos (m + 1) }
 
