@@ -24,9 +24,6 @@ use Rattle.card.proofs.Orthogonality.{AllStand}
 use Rattle.card.proofs.WholeReading.{check-is, fields-are}
 
 -- ---- no bit above m
-pub within-of-top : (v m : ℕ) → v / 2 ^ m ≤ 1 → v < 2 ^ (m + 1)
-within-of-top v m h = rw (add-one, pow-succ') (div-lt-iff-lt-mul {y = 2} (pow-pos m) .0 (omega arith))
-
 pub top-of-within : (v m : ℕ) → v < 2 ^ (m + 1) → v / 2 ^ m ≤ 1
 top-of-within v m h = let q = div-lt-iff-lt-mul {y = 2} (pow-pos m) .1 (rw (add-one, pow-succ') at h) in omega arith
 
