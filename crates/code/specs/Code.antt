@@ -11,6 +11,10 @@ use Rattle.bits.specs.Sums.{sumBelow, upTo, back}
 use Rattle.bits.specs.Digits.{bit, fromDigits}
 use Rattle.code.specs.declared.Card.{Card}
 
+-- a stream has at most 1,048,576 frames, the tail included: refusal 15
+abbrev pub mostFrames : ℕ
+mostFrames = 1048576
+
 -- g (i, j, a): "a generator is a 32-bit mask: bit a is g (i, j, a)"
 unfoldable pub generator : Card → ℕ → ℕ → ℕ → ℕ
 generator c i j a = bit (getD (c .generators) (i * 8 + j) 0) a

@@ -4,6 +4,9 @@ ghost use mathlib.Core.Path.{_≡_};
 ghost use Prim.Native.Nat.{_<_};
 ghost use Rattle.code.specs.Registers.{generatorMask, shiftIn, historyBy, parityBy, frameBy};
 
+// A stream has at most this many frames, the tail included.
+pub const MOST_FRAMES: usize = 1048576;
+
 // What a card states; what it does not state is zero, so equal cards are equal values.
 pub struct Card {
     pub number: u8,
