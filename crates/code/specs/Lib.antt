@@ -2,3 +2,4 @@ pub mod Code
 pub mod Checks
 pub mod Guarantees
 pub mod Registers
+pub mod Bench

@@ -4,5 +4,6 @@ pub mod Feedback
 pub mod Majority
 pub mod Linear
 pub mod Theorem
+pub mod Edges
 -- the vote on registers
 pub mod Voting

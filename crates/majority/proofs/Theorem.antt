@@ -55,7 +55,7 @@ module _ (c : Card) (G : Guarantees c) (info frames : List ℕ) (few : Correctab
   -- the third term's condition, in the words of the majority
   few-touched : 2 * touchedSum (suc (c .m)) (c .k + c .p) (touchedByAny (count c i) (touches c i)) (λ b s. wrong c info frames (u + b) s) ≤ count c i
   unfolding wrongTouched touched touchedSum touchedByAny
-  few-touched = let f = few u i lu li in omega arith
+  few-touched = let f = few u i (omega arith) li in omega arith
 
   -- orthogonality, as a count
   apart : (b s : ℕ) → b < suc (c .m) → s < c .k + c .p → (b ≡ 0 → s ≡ i → ⊥) → sumBelow (count c i) (λ q. touches c i q b s) ≤ 1

@@ -1,3 +1,4 @@
 pub mod Rule
 pub mod AsSent
 pub mod Voting
+pub mod Edges

@@ -1,0 +1,67 @@
+-- The cards of document 01, "Cards on the bench", as what they state. `card`, `Bench`, has their bytes.
+-- All four have one parity stream. The document gives Q, R and T no card numbers; they have those after P's.
+-- Assumes nothing.
+use Prim.Native.Nat.{ℕ, _+_, _^_}
+use mathlib.Core.List.{List, [], _∷_, _++_}
+use lib.ListN.{replicate}
+use Rattle.code.specs.declared.Card.{Card}
+
+-- s a, of parity stream 1: bit a of a check's mask
+abbrev pub s : ℕ → ℕ
+s a = 2 ^ a
+
+-- a check over parity stream 1 alone, in the table's stride
+abbrev check : ℕ → List ℕ
+check v = v ∷ replicate 7 0
+
+-- "Card P": k 1, n 2, m 1, generator 3 (terms 0, 1), checks s0, s1
+abbrev pub P : Card
+P =
+    record {
+      number = 7;
+      k = 1;
+      p = 1;
+      m = 1;
+      generators = 3 ∷ replicate 31 0;
+      counts = 2 ∷ replicate 3 0;
+      checks = check (s 0) ++ check (s 1) ++ replicate 496 0;
+    }
+
+-- "Q: k 1, n 2, m 3, generator 11 (terms 0, 1, 3), checks s0, s1, s3"
+abbrev pub Q : Card
+Q =
+    record {
+      number = 8;
+      k = 1;
+      p = 1;
+      m = 3;
+      generators = 11 ∷ replicate 31 0;
+      counts = 3 ∷ replicate 3 0;
+      checks = check (s 0) ++ check (s 1) ++ check (s 3) ++ replicate 488 0;
+    }
+
+-- "R: m 5, generator 57 (terms 0, 3, 4, 5), checks s0, s3, s4, and s1 + s5"
+abbrev pub R : Card
+R =
+    record {
+      number = 9;
+      k = 1;
+      p = 1;
+      m = 5;
+      generators = 57 ∷ replicate 31 0;
+      counts = 4 ∷ replicate 3 0;
+      checks = check (s 0) ++ check (s 3) ++ check (s 4) ++ check (s 1 + s 5) ++ replicate 480 0;
+    }
+
+-- "T: k 2, n 3, m 2, generators 3 and 5, checks s0, s1 for stream 1 and s0, s2 for stream 2"
+abbrev pub T : Card
+T =
+    record {
+      number = 10;
+      k = 2;
+      p = 1;
+      m = 2;
+      generators = 3 ∷ replicate 7 0 ++ 5 ∷ replicate 23 0;
+      counts = 2 ∷ 2 ∷ replicate 2 0;
+      checks = check (s 0) ++ check (s 1) ++ replicate 112 0 ++ check (s 0) ++ check (s 2) ++ replicate 368 0;
+    }
