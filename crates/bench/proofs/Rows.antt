@@ -10,7 +10,7 @@ use Rattle.majority.specs.Rule.{syndrome, cleared, checkAt, votes, decide, deci
 use Rattle.decoder.specs.Calls.{answersBy}
 use Rattle.outcomes.specs.Outcome.{refusedOf, givenOf, underCard}
 use Rattle.outcomes.specs.Receiving.{receiveUnder, receiveOf}
-use Rattle.bench.specs.Cards.{checks}
+use Rattle.card.specs.Bench.{checks}
 use Rattle.bench.specs.Rows.{Rows}
 
 pub rows : Rows

@@ -14,7 +14,8 @@ use Rattle.majority.specs.Rule.{decoded}
 use Rattle.decoder.specs.Answers.{waiting}
 use Rattle.decoder.specs.Calls.{answersBy}
 use Rattle.outcomes.specs.Receiving.{receiveOf}
-use Rattle.bench.specs.Cards.{s, cardP, cardQ, cardR, cardT}
+use Rattle.code.specs.Bench.{s}
+use Rattle.card.specs.Bench.{cardP, cardQ, cardR, cardT}
 
 pub record Rows : Type 0 where
   -- P and Q, which the other rows change; an own digit that is not excepted would refuse both

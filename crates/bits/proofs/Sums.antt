@@ -65,6 +65,10 @@ unfolding sumBelow
 none-of-sum zero f e q h = absurd (omega arith)
 none-of-sum (suc n) f e q h = ⊎-elim (λ w. ap f w ∙ (omega arith)) (λ l. none-of-sum n f (omega arith) q l) (last-or-below h)
 
+-- a bound at each of n places, by a sum that can be computed
+pub all-at-most : (n : ℕ) (f g : ℕ → ℕ) → sumBelow n (λ q. f q - g q) ≡ 0 → (q : ℕ) → q < n → f q ≤ g q
+all-at-most n f g e q l = let z = none-of-sum n _ e q l in omega arith
+
 -- ---- addition and factors
 
 pub sum-add : (n : ℕ) (f g : ℕ → ℕ) → sumBelow n (λ q. f q + g q) ≡ sumBelow n f + sumBelow n g

@@ -5,3 +5,4 @@ pub mod Reading
 pub mod Layout
 pub mod Promise
 pub mod Parts
+pub mod Bench

@@ -4,15 +4,15 @@ use mathlib.Core.Path.{_≡_, refl}
 use native.Mathlib.Omega.{arith}
 use Rattle.bits.specs.Sums.{sumBelow, upTo, back}
 use Rattle.bits.specs.Digits.{bit, fromDigits}
-use Rattle.bits.proofs.Sums.{none-of-sum}
+use Rattle.bits.proofs.Sums.{none-of-sum, all-at-most}
 use Rattle.code.specs.Code.{generator, digit, parityAt, withTail, sentDigit, sentFrame, sent}
 use Rattle.code.specs.Checks.{count, checkMask, touchesInfo, touchesBy, touches}
 use Rattle.majority.specs.AsSent.{wrong, touched, wrongTouched, Correctable}
 use Rattle.majority.specs.Edges.{Edges}
 
--- a bound that holds at each of n times k places, by a sum that is computed
+-- a bound at each of n times k places
 within : (n k : ℕ) (f g : ℕ → ℕ → ℕ) → sumBelow n (λ u. sumBelow k (λ i. f u i - g u i)) ≡ 0 → (u i : ℕ) → u < n → i < k → f u i ≤ g u i
-within n k f g e u i lu li = let z = none-of-sum k _ (none-of-sum n _ e u lu) i li in omega arith
+within n k f g e u i lu li = all-at-most k _ _ (none-of-sum n _ e u lu) i li
 
 pub edges : Edges Correctable
 unfolding sumBelow upTo back bit fromDigits generator digit parityAt withTail sentDigit sentFrame sent count checkMask touchesInfo touchesBy touches wrong touched wrongTouched

@@ -1,4 +1,4 @@
-// The cards of document 01, "Cards on the bench", byte by byte, and some of P and Q with a part changed. The bench's `specs/Cards.antt` has the
+// The cards of document 01, "Cards on the bench", byte by byte, and some of P and Q with a part changed. `card`, `specs/Bench.antt`, has the
 // same ones as lists. A line has the head and the generator map, the generators with J, or the checks of a stream.
 use crate::drafts;
 use crate::drafts::Draft;
@@ -13,7 +13,7 @@ pub(crate) fn p() -> Draft {
 
 pub(crate) fn q() -> Draft {
     drafts::of(
-        b"\x00\x51\x03\x01\x00\
+        b"\x00\x08\x03\x01\x00\
           \x0b\x00\x00\x00\x03\
           \x01\x01\x00\x00\x00\x01\x02\x00\x00\x00\x01\x08\x00\x00\x00",
     )
@@ -22,7 +22,7 @@ pub(crate) fn q() -> Draft {
 // "Q with s2 as a fourth check."
 pub(crate) fn q_with_s2() -> Draft {
     drafts::of(
-        b"\x00\x51\x03\x01\x00\
+        b"\x00\x08\x03\x01\x00\
           \x0b\x00\x00\x00\x04\
           \x01\x01\x00\x00\x00\x01\x02\x00\x00\x00\x01\x08\x00\x00\x00\x01\x04\x00\x00\x00",
     )
@@ -30,7 +30,7 @@ pub(crate) fn q_with_s2() -> Draft {
 
 pub(crate) fn r() -> Draft {
     drafts::of(
-        b"\x00\x52\x05\x01\x00\
+        b"\x00\x09\x05\x01\x00\
           \x39\x00\x00\x00\x04\
           \x01\x01\x00\x00\x00\x01\x08\x00\x00\x00\x01\x10\x00\x00\x00\x01\x22\x00\x00\x00",
     )
@@ -38,7 +38,7 @@ pub(crate) fn r() -> Draft {
 
 pub(crate) fn t() -> Draft {
     drafts::of(
-        b"\x03\x54\x02\x03\x02\x03\x00\
+        b"\x03\x0a\x02\x03\x02\x03\x00\
           \x03\x00\x00\x00\x05\x00\x00\x00\
           \x02\x01\x01\x00\x00\x00\x01\x02\x00\x00\x00\
           \x02\x01\x01\x00\x00\x00\x01\x04\x00\x00\x00",

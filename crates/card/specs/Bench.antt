@@ -1,14 +1,10 @@
 -- The bytes of the cards on the bench: document 01, "Cards on the bench" and "The card".
 -- P is given there in hexadecimal. Q, R and T are written here from its words, with the checks as parameters, each as the sum of its
--- syndromes: R has s 0, s 3, s 4, and s 1 + s 5. The document gives them no card numbers; they have their letters.
+-- syndromes: R has s 0, s 3, s 4, and s 1 + s 5. What they state is in `code`, `Bench`.
 -- Assumes nothing.
-use Prim.Native.Nat.{ℕ, _^_}
+use Prim.Native.Nat.{ℕ}
 use mathlib.Core.List.{List, [], _∷_, _++_}
 use lib.ListN.{length}
-
--- s a, of parity stream 1: bit a of a check's mask
-abbrev pub s : ℕ → ℕ
-s a = 2 ^ a
 
 -- a mask below 256 in its four bytes: "Integers are little-endian"
 abbrev pub mask : ℕ → List ℕ
@@ -29,12 +25,12 @@ cardP = 0 ∷ 7 ∷ 1 ∷ 1 ∷ 0 ∷ 3 ∷ 0 ∷ 0 ∷ 0 ∷ 2 ∷ 1 ∷ 1 ∷ 
 
 -- "Q: k 1, n 2, m 3, generator 11 (terms 0, 1, 3)": k and n do not stand
 abbrev pub cardQ : List ℕ → List ℕ
-cardQ vs = 0 ∷ 81 ∷ 3 ∷ 1 ∷ 0 ∷ mask 11 ++ stream vs
+cardQ vs = 0 ∷ 8 ∷ 3 ∷ 1 ∷ 0 ∷ mask 11 ++ stream vs
 
 -- "R: m 5, generator 57 (terms 0, 3, 4, 5)"
 abbrev pub cardR : List ℕ → List ℕ
-cardR vs = 0 ∷ 82 ∷ 5 ∷ 1 ∷ 0 ∷ mask 57 ++ stream vs
+cardR vs = 0 ∷ 9 ∷ 5 ∷ 1 ∷ 0 ∷ mask 57 ++ stream vs
 
 -- "T: k 2, n 3, m 2, generators 3 and 5", with the checks of stream 1 and of stream 2
 abbrev pub cardT : List ℕ → List ℕ → List ℕ
-cardT vs ws = 3 ∷ 84 ∷ 2 ∷ 3 ∷ 2 ∷ 3 ∷ 0 ∷ mask 3 ++ mask 5 ++ stream vs ++ stream ws
+cardT vs ws = 3 ∷ 10 ∷ 2 ∷ 3 ∷ 2 ∷ 3 ∷ 0 ∷ mask 3 ++ mask 5 ++ stream vs ++ stream ws
