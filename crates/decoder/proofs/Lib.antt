@@ -7,3 +7,4 @@ pub mod Answers
 pub mod Follow
 pub mod ByRule
 pub mod Opening
+pub mod Example

@@ -24,7 +24,7 @@ claims-of c G =
       handed-by-rule = calls-follow-rule c G;
       answers-by-rule = answers-follow-rule c G;
       figure-by-rule = link-figure-by-rule c G;
-      comes-out-as-sent = calls-as-sent c G;
+      comes-out-as-sent = λ calls info small whole few. let h = calls-as-sent c G calls info small whole few in cc;
     }
 
 refused-other : (call : Call) → (numberIn call ≡ closed .card .number → ⊥) → replyOf closed call ≡ refusedOf closed 14

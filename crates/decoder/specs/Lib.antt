@@ -5,3 +5,4 @@ pub mod Receive
 pub mod Calls
 pub mod Claims
 pub mod Opening
+pub mod Example
