@@ -2,3 +2,4 @@ pub mod Outcomes
 pub mod Calls
 pub mod Claim
 pub mod Opening
+pub mod Example

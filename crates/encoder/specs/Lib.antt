@@ -3,3 +3,4 @@ pub mod Sending
 pub mod Calls
 pub mod Claims
 pub mod Opening
+pub mod Example
