@@ -69,6 +69,10 @@ none-of-sum (suc n) f e q h = ⊎-elim (λ w. ap f w ∙ (omega arith)) (λ l. n
 pub all-at-most : (n : ℕ) (f g : ℕ → ℕ) → sumBelow n (λ q. f q - g q) ≡ 0 → (q : ℕ) → q < n → f q ≤ g q
 all-at-most n f g e q l = let z = none-of-sum n _ e q l in omega arith
 
+-- the same at each of n times m places
+pub all-at-most-twice : (n m : ℕ) (f g : ℕ → ℕ → ℕ) → sumBelow n (λ q. sumBelow m (λ r. f q r - g q r)) ≡ 0 → (q r : ℕ) → q < n → r < m → f q r ≤ g q r
+all-at-most-twice n m f g e q r l k = all-at-most m _ _ (none-of-sum n _ e q l) r k
+
 -- ---- addition and factors
 
 pub sum-add : (n : ℕ) (f g : ℕ → ℕ) → sumBelow n (λ q. f q + g q) ≡ sumBelow n f + sumBelow n g

@@ -25,7 +25,7 @@ one = Level (fin false 1 (pos 0))
 
 -- "P receives 3, 3, 3, 2", as bytes and readings in turn, the first two frames ..
 abbrev pub callsP-first : List Call
-callsP-first = byte 7 3 ∷ readings 7 (pair one one) ∷ []
+callsP-first = byte 7 3 ∷ readings 7 (replicate 8 one) ∷ []
 
 -- .. and the last two, with calls between that are refused: another card number, a digit beyond the streams, a level that is not a number
 abbrev pub callsP : List Call

@@ -1,0 +1,108 @@
+-- What the clauses of `read_card`'s promise give for cards of the bench.
+use Prim.Native.Nat.{ℕ, zero, suc, _+_, _-_, _*_, _^_, _≤_, _<_}
+use mathlib.Core.Path.{_≡_, refl, ap, subst}
+use mathlib.Core.List.{List, [], _∷_}
+use native.Mathlib.Omega.{arith}
+use lib.ListN.{getD}
+use Rattle.bits.specs.Sums.{sumBelow, upTo, back}
+use Rattle.bits.specs.Digits.{bit}
+use Rattle.bits.proofs.Sums.{all-at-most, all-at-most-twice}
+use Rattle.code.specs.Bench.{s}
+use Rattle.code.specs.Code.{generator}
+use Rattle.code.specs.Checks.{count, checkMask, touchesInfo, touchesBy, touches, Orthogonal}
+use Rattle.code.proofs.Touches.{touches-le}
+use Rattle.card.specs.Bench.{cardP, cardT, checks}
+use Rattle.card.specs.Fields.{Fields, store, storeRows, storeChecks, storeStreams, storeCounts, cardOf}
+use Rattle.card.specs.Layout.{bytes4, stands, mapOf, layoutMasks, optional, layoutHead, allRows, layoutRows, layoutChecks, layoutStreams, layout, MasksIn, InLimits, Acceptable}
+use Rattle.card.specs.Outcome.{outcomeOf, CardOutcome}
+use Rattle.card.specs.Outcome.Outcome.{accepted, refused}
+use Rattle.card.specs.Promise.{CardPromise}
+use Rattle.card.specs.Reading.{byteField, kField, nField, mapField, wordAt, maskField, readHead, standingMask, readMasks, readRows, readGenerators, otherError, touchedBy, clashes, judge, readCheck, readChecks, readStreams, readFields, readCard}
+use Rattle.card.specs.declared.CardRead.{CardRead}
+use Rattle.card.proofs.Acceptance.{reads-back}
+use Rattle.card.proofs.RefusedCard.{not-both}
+use Rattle.clients.specs.Cards.{fieldsP}
+
+-- ---- P is acceptable, shown without reading it
+
+-- the one mask of a row
+one-mask : (v : ℕ) → v < 4 → MasksIn 1 1 (v ∷ [])
+one-mask v l = record { many = refl; within = below }
+  where
+    below : (j : ℕ) → getD (v ∷ []) j 0 < 2 ^ (1 + 1)
+    below zero = omega arith
+    below (suc j) = omega arith
+
+limits-P : InLimits fieldsP
+limits-P =
+    record {
+      kStands-bit = omega arith;
+      nStands-bit = omega arith;
+      number-most = omega arith;
+      k-least = omega arith;
+      k-most = omega arith;
+      k-default = λ e. refl;
+      n-least = omega arith;
+      n-most = omega arith;
+      n-default = λ e. refl;
+      m-most = omega arith;
+      row-count = refl;
+      rows-in = (one-mask 3 (omega arith), tt);
+      stream-count = refl;
+      streams-in = (
+        record {
+          many = refl;
+          J-least = omega arith;
+          J-most = omega arith;
+          masks = (one-mask 1 (omega arith), (one-mask 2 (omega arith), tt));
+        },
+        tt,
+      );
+    }
+
+-- 1 if check q of P touches the error (b, s)
+abbrev by : ℕ → ℕ → ℕ → ℕ
+by q b s = touches (cardOf fieldsP) 0 q b s
+
+orthogonal-P : Orthogonal (cardOf fieldsP) 0
+unfolding sumBelow back bit generator count checkMask touchesInfo touchesBy touches store storeRows storeChecks storeStreams storeCounts cardOf
+orthogonal-P =
+    record {
+      own = λ q l. omega (arith, all-at-most 2 (λ q. 1) (λ q. by q 0 0) refl q l, touches-le (cardOf fieldsP) 0 q 0 0);
+      apart = λ b s q r lb ls other lq lr eq er.
+          let zq : q ≡ 0 = omega arith in
+          let zr : r ≡ 1 = omega arith in
+          let h = all-at-most-twice 2 2 (λ b s. by 0 b s + by 1 b s) (λ b s. 1 + (1 - (b + s))) refl b s (omega arith) ls in
+          let first : by 0 b s ≡ 1 = rw zq at eq in
+          let second : by 1 b s ≡ 1 = rw zr at er in
+          let zb : b ≡ 0 = omega arith in
+          let zs : s ≡ 0 = omega arith in
+          other zb zs;
+    }
+
+orthogonal : (i : ℕ) → i < 1 → Orthogonal (cardOf fieldsP) i
+orthogonal i l = let e : 0 ≡ i = omega arith in subst (λ (i : ℕ). Orthogonal (cardOf fieldsP) i) e orthogonal-P
+
+acceptable-P : Acceptable cardP fieldsP
+unfolding bytes4 stands mapOf layoutMasks optional layoutHead allRows layoutRows layoutChecks layoutStreams layout
+acceptable-P = record { limits = limits-P; orthogonal = orthogonal; bytes-are = refl }
+
+-- ---- the clauses
+
+pub accepted-P : (r : CardRead) → CardPromise cardP r → outcomeOf (r .verdict) ≡ accepted
+accepted-P r promise = promise .all-these fieldsP acceptable-P
+
+-- T with s0, s2 for stream 1
+abbrev pub wrongT : List ℕ
+wrongT = cardT (s 0 ∷ s 2 ∷ []) (s 0 ∷ s 2 ∷ [])
+
+refused-T : readCard wrongT .outcome ≡ refused 8 21
+unfolding sumBelow back bit generator count checkMask touchesInfo touchesBy store storeRows storeChecks storeStreams storeCounts cardOf byteField kField nField mapField wordAt maskField readHead standingMask readMasks readRows readGenerators otherError touchedBy clashes judge readCheck readChecks readStreams readFields readCard checks
+refused-T = refl
+
+-- no fields are laid out as these bytes within the limits and with orthogonal checks
+unacceptable-T : (f : Fields) → Acceptable wrongT f → ⊥
+unacceptable-T f a = not-both (ap (λ (r : CardOutcome). r .outcome) (reads-back wrongT f a)) refused-T
+
+pub not-accepted-T : (r : CardRead) → CardPromise wrongT r → outcomeOf (r .verdict) ≡ accepted → ⊥
+not-accepted-T r promise e = let found = promise .only-these e in unacceptable-T (found .0) (found .1 .acceptable)

@@ -1,0 +1,4 @@
+pub mod CardClauses
+pub mod ReadP
+pub mod ReceiverClauses
+pub mod SenderClauses

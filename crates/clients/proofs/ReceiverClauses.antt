@@ -1,0 +1,51 @@
+-- What the clauses of the receiver's promises give for card P.
+use Prim.Native.Nat.{ℕ}
+use mathlib.Core.Path.{_≡_, sym, ap, _∙_, subst}
+use native.Mathlib.Omega.{arith}
+use lib.ListN.{take, replicate}
+use Rattle.code.specs.Bench.{P}
+use Rattle.code.specs.declared.Card.{Card}
+use Rattle.card.specs.Bench.{cardP}
+use Rattle.card.specs.Outcome.{Outcome, outcomeOf, CardOutcome}
+use Rattle.card.specs.Outcome.Outcome.{accepted}
+use Rattle.card.specs.Reading.{readCard}
+use Rattle.decoder.specs.Answers.{Reply, receivedOf}
+use Rattle.decoder.specs.Calls.{numberIn, replyOf, sessionAfter}
+use Rattle.decoder.specs.Claims.{Claims}
+use Rattle.decoder.specs.Opening.{sessionFor, closed, OpenPromise}
+use Rattle.decoder.specs.Receive.{receiveByteOf, receiveReadingsOf, linkFigureOf}
+use Rattle.decoder.specs.Example.{one, ReceivesP}
+use Rattle.decoder.specs.declared.Opened.{Opened}
+use Rattle.decoder.specs.declared.Received.{Received}
+use Rattle.decoder.specs.declared.Session.{Session}
+use Rattle.decoder.proofs.Example.{receives-P}
+use Rattle.clients.specs.Closed.{ReceivesNothing}
+use Rattle.clients.proofs.ReadP.{read-P, read-short-P}
+
+module _ (r : Opened) (promise : OpenPromise cardP r) where
+  pub opened : outcomeOf (r .verdict) ≡ accepted
+  opened = promise .verdict-is ∙ ap (λ (read : CardOutcome). read .outcome) read-P
+
+  pub receives : ReceivesP (r .session)
+  unfolding sessionFor
+  receives =
+      receives-P (r .session) (promise .session-is ∙ ap (λ (read : CardOutcome). sessionFor (read .outcome) (read .card)) read-P)
+      (subst (λ (c : Card). Claims c (r .session)) (ap (λ (read : CardOutcome). read .card) read-P) (promise .claims opened))
+
+  -- the link figure after a byte and readings, each a call of its own
+  pub figure-after : (first second : Received) (f : ℕ) → receivedOf first ≡ receiveByteOf (r .session) 7 3
+      → receivedOf second ≡ receiveReadingsOf (first .session) 7 (replicate 8 one) → f ≡ linkFigureOf (second .session) → f ≡ 1
+  unfolding sessionAfter replyOf
+  figure-after first second f a b e =
+      e ∙ ap (λ (x : Reply). linkFigureOf (x .session)) b
+      ∙ ap (λ (x : Reply). linkFigureOf (receiveReadingsOf (x .session) 7 (replicate 8 one) .session)) a
+      ∙ receives .figure
+
+pub receives-nothing : (r : Opened) → OpenPromise (take 19 cardP) r → ReceivesNothing r
+unfolding sessionFor closed numberIn
+receives-nothing r promise =
+    let e = promise .verdict-is ∙ read-short-P in
+    let shut = promise .shut 1 19 e in
+    let own : r .session .card .number ≡ 0 =
+    ap (λ (s : Session). s .card .number) (promise .session-is ∙ ap (λ (o : Outcome). sessionFor o (readCard (take 19 cardP) .card)) read-short-P) in
+    record { verdict = e; other-number = shut .other-refused _ (λ q. omega arith); no-room = shut .own-refused _ (sym own) }
