@@ -2,3 +2,5 @@ pub mod CardClauses
 pub mod ReadP
 pub mod ReceiverClauses
 pub mod SenderClauses
+pub mod BurstClauses
+pub mod ListingClauses

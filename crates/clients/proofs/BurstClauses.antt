@@ -1,0 +1,77 @@
+-- What the clauses of the burst calls' promises give for card P.
+use Prim.Native.Nat.{ℕ, _+_, _≤_}
+use mathlib.Core.Path.{_≡_, refl, sym, ap, _∙_, subst}
+use mathlib.Core.List.{List, [], _∷_, _++_}
+use native.Mathlib.Omega.{arith}
+use lib.ListN.{length, drop-of-length-le}
+use lib.IntN.{ℤ, pos}
+use Rattle.bits.specs.Sums.{sumBelow, upTo, back}
+use Rattle.bits.specs.Digits.{bit, fromDigits, anyBeyond}
+use Rattle.code.specs.Bench.{P}
+use Rattle.code.specs.Code.{generator, digit, parityAt, withTail, sentDigit, sentFrame, sent}
+use Rattle.code.specs.Checks.{count, checkMask}
+use Rattle.code.specs.declared.Card.{Card}
+use Rattle.card.specs.Bench.{cardP}
+use Rattle.card.specs.Outcome.{CardOutcome}
+use Rattle.card.specs.Reading.{readCard}
+use Rattle.majority.specs.Rule.{syndrome, cleared, checkAt, votes, decide, decideFrame, decided, corrected, decoded}
+use Rattle.outcomes.specs.Outcome.{BurstOutcome, outcome, refusedOf, givenOf, underCard}
+use Rattle.outcomes.specs.Sending.{sendUnder, sendOf}
+use Rattle.outcomes.specs.Receiving.{receiveUnder, receiveOf}
+use Rattle.outcomes.specs.Claims.{Admitted, SentAs, CameOut, ComesOutAsSent}
+use Rattle.outcomes.proofs.Outcomes.{under-sent}
+use Rattle.outcomes.proofs.Received.{receive-short, receive-given}
+use Rattle.outcomes.proofs.Edges.{edges}
+use Rattle.clients.proofs.ReadP.{read-P}
+
+card-P : P ≡ readCard cardP .card
+card-P = sym (ap (λ (read : CardOutcome). read .card) read-P)
+
+-- frames that fill an output
+filled : (frames output : List ℕ) → length output ≤ length frames → givenOf frames output ≡ outcome (pos (length frames)) (frames ++ [])
+unfolding givenOf
+filled frames output l = ap (λ (rest : List ℕ). outcome (pos (length frames)) (frames ++ rest)) (drop-of-length-le output l)
+
+-- ---- an output for as many frames as are received, less those that wait
+module _ (input output : List ℕ) where
+  received-P : receiveOf cardP input output ≡ receiveUnder P input output
+  unfolding receiveOf underCard
+  received-P = ap (λ (read : CardOutcome). underCard (read .outcome) (receiveUnder (read .card) input output) output) read-P
+
+  sent-P : sendOf cardP input output ≡ sendUnder P input output
+  unfolding sendOf underCard
+  sent-P = ap (λ (read : CardOutcome). underCard (read .outcome) (sendUnder (read .card) input output) output) read-P
+
+abbrev oneWrong : List ℕ
+oneWrong = 3 ∷ 3 ∷ 3 ∷ 2 ∷ []
+
+admitted : (output : List ℕ) → length output ≡ 3 → Admitted cardP oneWrong output
+unfolding anyBeyond
+admitted output room =
+    let m-is : readCard cardP .card .m ≡ 1 = ap (λ (read : CardOutcome). read .card .m) read-P in
+    record {
+      card-accepted = ap (λ (read : CardOutcome). read .outcome) read-P;
+      few-enough = omega arith;
+      output-long-enough = omega arith;
+      within-streams = ap (λ (read : CardOutcome). anyBeyond (read .card .k + read .card .p) oneWrong) read-P;
+    }
+
+pub comes-out : (output : List ℕ) → length output ≡ 3 → (r : ℤ) (after : List ℕ) → ComesOutAsSent cardP oneWrong output r after
+    → CameOut (1 ∷ 0 ∷ 1 ∷ []) r after
+comes-out output room r after claim =
+    claim (1 ∷ 0 ∷ 1 ∷ []) (admitted output room) (subst (λ (c : Card). SentAs c (1 ∷ 0 ∷ 1 ∷ []) oneWrong) card-P (edges .P-one))
+
+pub receives : (output : List ℕ) → length output ≡ 3 → receiveOf cardP (2 ∷ 2 ∷ 0 ∷ 0 ∷ []) output ≡ outcome (pos 3) (1 ∷ 0 ∷ 0 ∷ [])
+unfolding sumBelow upTo back bit fromDigits anyBeyond generator digit parityAt count checkMask syndrome cleared checkAt votes decide decideFrame decided corrected decoded
+receives output room =
+    let input : List ℕ = 2 ∷ 2 ∷ 0 ∷ 0 ∷ [] in
+    received-P input output ∙ receive-given P input output (omega arith) (omega arith) refl ∙ filled (1 ∷ 0 ∷ 0 ∷ []) output (omega arith)
+
+pub finds-no-room : (output : List ℕ) → length output ≡ 2 → receiveOf cardP oneWrong output ≡ refusedOf 13 output
+finds-no-room output room = received-P oneWrong output ∙ receive-short P oneWrong output (omega arith) (omega arith)
+
+pub sends : (output : List ℕ) → length output ≡ 4 → sendOf cardP (1 ∷ 0 ∷ 1 ∷ []) output ≡ outcome (pos 4) (3 ∷ 2 ∷ 3 ∷ 2 ∷ [])
+unfolding sumBelow upTo back bit fromDigits anyBeyond generator digit parityAt withTail sentDigit sentFrame sent
+sends output room =
+    let info : List ℕ = 1 ∷ 0 ∷ 1 ∷ [] in
+    sent-P info output ∙ under-sent P info output (omega arith) (omega arith) refl ∙ filled (3 ∷ 2 ∷ 3 ∷ 2 ∷ []) output (omega arith)

@@ -1,0 +1,20 @@
+-- What the clauses of the listing's promise give.
+use Prim.Native.Nat.{ℕ}
+use mathlib.Core.Path.{_≡_, refl, sym, ap, _∙_}
+use mathlib.Core.List.{List, _++_}
+use lib.ListN.{length, take, drop}
+use lib.Seq.{take-at}
+use Rattle.outcomes.specs.Listing.{listing}
+use Rattle.listing.specs.Promise.{Lists}
+
+module _ (input output after : List ℕ) (r : ℕ) (promise : Lists input output r after) where
+  -- the first bytes of the output, as many as are counted
+  pub listed : take r after ≡ listing input
+  listed =
+      ap (λ (n : ℕ). take n after) (promise .count-is)
+      ∙ ap (λ (l : List ℕ). take (length (listing input)) l) (promise .text-is)
+      ∙ take-at (listing input) (drop (length (listing input)) output) (length (listing input)) refl
+
+  -- .. are the listing of every input that begins so
+  pub listed-whole : length input ≡ 34819 → (more : List ℕ) → take r after ≡ listing (input ++ more)
+  listed-whole long more = listed ∙ sym (promise .by-the-front (input ++ more) (sym (take-at input more 34819 long)))
