@@ -1,5 +1,5 @@
 -- What the clauses of the burst calls' promises give for card P.
-use Prim.Native.Nat.{ℕ, _+_, _≤_}
+use Prim.Native.Nat.{ℕ, _≤_}
 use mathlib.Core.Path.{_≡_, refl, sym, ap, _∙_, subst}
 use mathlib.Core.List.{List, [], _∷_, _++_}
 use native.Mathlib.Omega.{arith}
@@ -18,11 +18,12 @@ use Rattle.majority.specs.Rule.{syndrome, cleared, checkAt, votes, decide, deci
 use Rattle.outcomes.specs.Outcome.{BurstOutcome, outcome, refusedOf, givenOf, underCard}
 use Rattle.outcomes.specs.Sending.{sendUnder, sendOf}
 use Rattle.outcomes.specs.Receiving.{receiveUnder, receiveOf}
-use Rattle.outcomes.specs.Claims.{Admitted, SentAs, CameOut, ComesOutAsSent}
+use Rattle.outcomes.specs.Claims.{SentAs, CameOut, ComesOutAsSent}
 use Rattle.outcomes.proofs.Outcomes.{under-sent}
 use Rattle.outcomes.proofs.Received.{receive-short, receive-given}
 use Rattle.outcomes.proofs.Edges.{edges}
-use Rattle.clients.proofs.ReadP.{read-P}
+use Rattle.outcomes.proofs.Admissions.{admitted-P}
+use Rattle.outcomes.proofs.ReadP.{read-P}
 
 card-P : P ≡ readCard cardP .card
 card-P = sym (ap (λ (read : CardOutcome). read .card) read-P)
@@ -45,21 +46,11 @@ module _ (input output : List ℕ) where
 abbrev oneWrong : List ℕ
 oneWrong = 3 ∷ 3 ∷ 3 ∷ 2 ∷ []
 
-admitted : (output : List ℕ) → length output ≡ 3 → Admitted cardP oneWrong output
-unfolding anyBeyond
-admitted output room =
-    let m-is : readCard cardP .card .m ≡ 1 = ap (λ (read : CardOutcome). read .card .m) read-P in
-    record {
-      card-accepted = ap (λ (read : CardOutcome). read .outcome) read-P;
-      few-enough = omega arith;
-      output-long-enough = omega arith;
-      within-streams = ap (λ (read : CardOutcome). anyBeyond (read .card .k + read .card .p) oneWrong) read-P;
-    }
-
 pub comes-out : (output : List ℕ) → length output ≡ 3 → (r : ℤ) (after : List ℕ) → ComesOutAsSent cardP oneWrong output r after
     → CameOut (1 ∷ 0 ∷ 1 ∷ []) r after
+unfolding anyBeyond
 comes-out output room r after claim =
-    claim (1 ∷ 0 ∷ 1 ∷ []) (admitted output room) (subst (λ (c : Card). SentAs c (1 ∷ 0 ∷ 1 ∷ []) oneWrong) card-P (edges .P-one))
+    claim (1 ∷ 0 ∷ 1 ∷ []) (admitted-P oneWrong output (omega arith) (omega arith) refl) (subst (λ (c : Card). SentAs c (1 ∷ 0 ∷ 1 ∷ []) oneWrong) card-P (edges .P-one))
 
 pub receives : (output : List ℕ) → length output ≡ 3 → receiveOf cardP (2 ∷ 2 ∷ 0 ∷ 0 ∷ []) output ≡ outcome (pos 3) (1 ∷ 0 ∷ 0 ∷ [])
 unfolding sumBelow upTo back bit fromDigits anyBeyond generator digit parityAt count checkMask syndrome cleared checkAt votes decide decideFrame decided corrected decoded

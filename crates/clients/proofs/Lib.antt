@@ -1,5 +1,4 @@
 pub mod CardClauses
-pub mod ReadP
 pub mod ReceiverClauses
 pub mod SenderClauses
 pub mod BurstClauses

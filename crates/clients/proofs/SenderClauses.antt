@@ -20,7 +20,7 @@ use Rattle.encoder.specs.declared.Sent.{Sent}
 use Rattle.encoder.specs.declared.Session.{Session}
 use Rattle.encoder.proofs.Example.{sends-P}
 use Rattle.clients.specs.Closed.{SendsNothing}
-use Rattle.clients.proofs.ReadP.{read-P, read-short-P}
+use Rattle.outcomes.proofs.ReadP.{read-P, read-short-P}
 
 module _ (r : Opened) (promise : OpenPromise cardP r) where
   pub opened : outcomeOf (r .verdict) ≡ accepted

@@ -2,5 +2,6 @@
 // They stand in the gate, so that a clause that is dropped or weakened, or whose condition nothing meets any more, breaks a proof.
 pub mod bursts;
 pub mod cards;
+pub mod edges;
 pub mod listings;
 pub mod sessions;

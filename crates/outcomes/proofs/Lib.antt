@@ -1,7 +1,9 @@
 -- bursts
 pub mod Outcomes
 pub mod Received
+pub mod ReadP
 pub mod Edges
+pub mod Admissions
 -- the listing
 pub mod Beyond
 pub mod Listings

@@ -3,6 +3,7 @@ use Prim.Native.Nat.{ℕ, _+_, _-_, _≤_, _<_}
 use mathlib.Core.Path.{_≡_, refl, sym, ap, _∙_, subst}
 use mathlib.Core.Bool.{true, false}
 use mathlib.Core.List.{List}
+use native.Mathlib.Omega.{arith}
 use lib.ListN.{length, drop, take}
 use lib.Seq.{take-at}
 use lib.IntN.{ℤ, pos, negℤ}
@@ -85,7 +86,7 @@ comes-out-as-sent bytes read promise input output e info A S =
     let G = guaranteed bytes read promise input output (A .card-accepted) in
     given-came-out info output
     (e ∙ admitted-given bytes input output A
-    ∙ ap (λ (l : List ℕ). givenOf l output) (decoded-as-sent c G info input (S .information) (S .whole) (S .correctable)))
+    ∙ ap (λ (l : List ℕ). givenOf l output) (decoded-as-sent c G info input (S .information) (omega arith) (S .correctable)))
 
 -- both clauses of the promise
 pub received : (bytes : List ℕ) (read : CardRead) → CardPromise bytes read → (input output : List ℕ) {answer : ℤ} {after : List ℕ}

@@ -2,5 +2,6 @@ pub mod Outcome
 pub mod Sending
 pub mod Receiving
 pub mod Claims
+pub mod Admissions
 pub mod Text
 pub mod Listing
