@@ -5,5 +5,7 @@ pub mod Majority
 pub mod Linear
 pub mod Theorem
 pub mod Edges
+-- the link figure
+pub mod Figures
 -- the vote on registers
 pub mod Voting
