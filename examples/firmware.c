@@ -105,6 +105,10 @@ static void serve(const uint8_t *by_card, size_t card_length, const uint8_t temp
         printf("  refusal %d, %s\n", (int)-count, meaning((int)-count));
         return;
     }
+    if (count != FRAMES) { /* another memory than the sender's: came holds count frames, and nothing beyond them */
+        printf("  %d frames, and not %d\n", (int)count, FRAMES);
+        return;
+    }
     temperatures_of(came, shown);
     show("sent", temperatures);
     show("received", shown);

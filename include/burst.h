@@ -17,12 +17,15 @@
  * to 1,163 bytes that you get with the probe. Both functions take the card's bytes at each call,
  * read them and test them; there is nothing to open, to keep or to close.
  *
- *     uint8_t sent[3 + BURST_MOST_MEMORY], came[3];
- *     int32_t count = burst_send(card, sizeof card, information, 3, sent, sizeof sent);
+ *     uint8_t link[3 + BURST_MOST_MEMORY], came[3];
+ *     int32_t sent = burst_send(card, sizeof card, information, 3, link, sizeof link);
+ *     if (sent < 0)
+ *         return show_refusal(-sent);
  *     .. the frames travel, and some of their digits change on the way ..
- *     count = burst_receive(card, sizeof card, sent, (size_t)count, came, sizeof came);
+ *     int32_t count = burst_receive(card, sizeof card, link, (size_t)sent, came, sizeof came);
  *     if (count < 0)
- *         show_refusal(-count);
+ *         return show_refusal(-count);
+ *     .. came[0] to came[count - 1] are the information frames ..
  *
  *
  * Frames

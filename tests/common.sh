@@ -1,4 +1,4 @@
-# What the scripts beside this file share; each sources it. It stands in the repository's root afterwards.
+# What the scripts beside this file and examples/build share; each sources it. It stands in the repository's root afterwards.
 cd "$(dirname "${BASH_SOURCE[0]}")/.."
 compiler=${CC:-cc}
 built=target/tests
@@ -17,21 +17,16 @@ stale() {
     [ ! -f "$1" ] || [ -n "$(find crates crates.txt -newer "$1" -print -quit)" ]
 }
 
-# Proves and compiles the library, where it is stale. rt works in a root of its own, over the same crates and what is proved of them:
-# another rt may be at work in this one, and each would read the other's verdicts in target/log.
+# Proves and compiles the library, where it is stale. Another rt may be at work.
 build_library() {
-    local root=$built/root
     stale "$library" || return 0
-    mkdir -p "$root/target" target/rlib target/stamp target/staticlib
-    ln -sfr crates crates.txt "$root"
-    ln -sfr target/rlib target/stamp target/staticlib "$root/target"
-    (cd "$root" && rt staticlib burst)
+    tests/rt_apart staticlib burst
 }
 
-# The same for a program, in this root.
+# The same for a program.
 build_program() {
     stale "target/bin/$1" || return 0
-    rt check "$1"
+    tests/rt_apart check "$1"
 }
 
 compile_trace_driver() {

@@ -1,12 +1,22 @@
 // The lines that a trace writes.
 use card::Refusal;
 
+// What became of a part of a line. A program has no exit status, so standard error alone can tell that it is not whole.
+fn written(whole: bool) {
+    if !whole {
+        io::write_all(
+            libc::STDERR_FILENO,
+            b"trace: part of a line could not be written\n",
+        );
+    }
+}
+
 pub(crate) fn text(words: &[u8]) {
-    io::write_all(libc::STDOUT_FILENO, words);
+    written(io::write_all(libc::STDOUT_FILENO, words));
 }
 
 fn number(n: u64) {
-    io::print_decimal(libc::STDOUT_FILENO, n);
+    written(io::print_decimal(libc::STDOUT_FILENO, n));
 }
 
 pub(crate) fn too_long() {

@@ -28,6 +28,9 @@ slice-aggregate-write-all c = listed-length (c .before .list .ensures)
 write-all-requires : tie.Need-write-all-requires
 write-all-requires c κs = search needs
 
+written-requires : tie.Need-written-requires
+written-requires c κs = search needs
+
 returns : tie.Need-returns
 returns c = search needs
 
@@ -43,4 +46,5 @@ main-spec =
     array-share-prefix-output
     slice-aggregate-write-all
     write-all-requires
+    written-requires
     returns)

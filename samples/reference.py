@@ -1,0 +1,188 @@
+"""Link cards, sending, receiving and the listing, in document 01's words. Nothing here is taken from the Rattle code.
+
+Made to be read, not to be fast. Streams are counted from 0; parity stream j is stream k + j. An error is a pair (b, stream).
+"""
+
+
+class Refused(Exception):
+    """A refusal's number, and its place: the card offset or the frame's time."""
+
+    def __init__(self, number, place):
+        self.number, self.place = number, place
+
+
+class Fields:
+    """A card's bytes as they are read: front to back, and the first fault stops it."""
+
+    def __init__(self, card):
+        self.card, self.at = card, 0
+
+    def field(self, size, allowed, refusal):
+        """The next field, an integer of `size` bytes. A field cut short comes before its value."""
+        start, self.at = self.at, self.at + size
+        if len(self.card) < self.at:
+            raise Refused(1, len(self.card))
+        value = int.from_bytes(self.card[start : self.at], "little")
+        if value not in allowed:
+            raise Refused(refusal, start)
+        return value
+
+    def masks(self, size, count, m):
+        """A map of `size` bytes, and the masks that stand; the others are zero."""
+        stands = self.field(size, range(1 << count), 5)
+        return [self.field(4, range(1, 1 << (m + 1)), 6) if stands >> at & 1 else 0 for at in range(count)]
+
+
+class Card:
+    """A card of k information and p parity streams with memory m.
+
+    generators[i][j] and checks[i][q][j] are masks: bit a is the term of offset a.
+    """
+
+    def __init__(self, number, k, n, m, generators, checks):
+        self.number, self.k, self.p, self.m = number, k, n - k, m
+        self.generators, self.checks = generators, checks
+
+    @classmethod
+    def read(cls, card):
+        """The card of these bytes, or its refusal."""
+        fields = Fields(card)
+        stands = fields.field(1, range(4), 5)
+        number = fields.field(1, range(256), None)
+        k = fields.field(1, range(1, 5), 2) if stands & 1 else 1
+        n = fields.field(1, range(k + 1, 9), 3) if stands & 2 else 2
+        if n <= k:
+            raise Refused(3, 0)  # n doesn't stand
+        m = fields.field(1, range(32), 4)
+        p = n - k
+        generators = fields.masks(2, k * p, m)
+        made = cls(number, k, n, m, [generators[i * p : (i + 1) * p] for i in range(k)], [[] for _ in range(k)])
+        for i, checks in enumerate(made.checks):
+            for _ in range(fields.field(1, range(1, 17), 7)):
+                start = fields.at
+                check = fields.masks(1, p, m)
+                touched = made.touched_by(check)
+                if (0, i) not in touched:
+                    raise Refused(8, start)
+                if touched & made.touched(i) - {(0, i)}:
+                    raise Refused(9, start)
+                checks.append(check)
+        if fields.at < len(card):
+            raise Refused(10, fields.at)
+        return made
+
+    def bytes(self):
+        """The card as the section "The card" lays it out; k and n stand where they are not the default."""
+        n = self.k + self.p
+        head = bytes([(self.k != 1) | (n != 2) << 1, self.number])
+        head += bytes([self.k] if self.k != 1 else []) + bytes([n] if n != 2 else []) + bytes([self.m])
+        generators = [g for row in self.generators for g in row]
+        out = head + mapped(generators, 2)
+        for checks in self.checks:
+            out += bytes([len(checks)]) + b"".join(mapped(check, 1) for check in checks)
+        return out
+
+    def parity(self, frames, u, j):
+        """The digit of parity stream j at u, worked out from the information digits of the frames."""
+        digit = 0
+        for i in range(self.k):
+            for a in range(min(u, self.m) + 1):
+                digit ^= (self.generators[i][j] >> a) & (frames[u - a] >> i) & 1
+        return digit
+
+    def sent(self, information):
+        """The frames sent for the information frames, tail included."""
+        info = list(information) + [0] * self.m
+        return [frame | sum(self.parity(info, u, j) << (self.k + j) for j in range(self.p)) for u, frame in enumerate(info)]
+
+    def touched_by(self, check):
+        """The errors that a check touches."""
+        errors = set()
+        for b in range(self.m + 1):
+            errors |= {(b, self.k + j) for j in range(self.p) if check[j] >> b & 1}
+            for s in range(self.k):
+                total = sum((check[j] >> a & 1) * (self.generators[s][j] >> (a - b) & 1) for j in range(self.p) for a in range(b, self.m + 1))
+                if total % 2:
+                    errors.add((b, s))
+        return errors
+
+    def touched(self, i):
+        """The errors that at least one check of stream i touches."""
+        return set().union(*(self.touched_by(check) for check in self.checks[i]))
+
+    def correctable(self, information, received):
+        """The condition under which the stream must come out as sent: for each digit at most half of J wrong digits among the touched ones."""
+        wrong = [x ^ y for x, y in zip(self.sent(information), received)]
+        return all(
+            2 * sum(wrong[u + b] >> s & 1 for b, s in self.touched(i)) <= len(self.checks[i])
+            for u in range(len(information))
+            for i in range(self.k)
+        )
+
+    def decided(self, i, syndromes):
+        """The decided error of digit i, by the syndromes of its frame and the m after it, decided errors taken out."""
+        offsets = range(self.m + 1)
+        checks = [sum(syndromes[a][j] for j in range(self.p) for a in offsets if check[j] >> a & 1) % 2 for check in self.checks[i]]
+        return int(2 * sum(checks) > len(checks))
+
+    def received(self, frames):
+        """The frames handed out: each is decided once the m frames after it are there."""
+        streams, offsets = range(self.k), range(self.m + 1)
+        syndromes = [[frame >> (self.k + j) & 1 ^ self.parity(frames, u, j) for j in range(self.p)] for u, frame in enumerate(frames)]
+        handed_out = []
+        for u in range(len(frames) - self.m):
+            # All streams are decided before any is fed back.
+            decided = [self.decided(i, syndromes[u : u + self.m + 1]) for i in streams]
+            for i in streams:
+                for j in range(self.p):
+                    for a in offsets:
+                        syndromes[u + a][j] ^= decided[i] & self.generators[i][j] >> a
+            handed_out.append(sum((frames[u] >> i & 1 ^ decided[i]) << i for i in streams))
+        return handed_out
+
+
+def mapped(masks, width):
+    """A map of the masks that are not zero, and these."""
+    stands = sum(1 << at for at, mask in enumerate(masks) if mask)
+    return stands.to_bytes(width, "little") + b"".join(mask.to_bytes(4, "little") for mask in masks if mask)
+
+
+def listing(given):
+    """What the listing program writes for an input."""
+    length = int.from_bytes(given[:2], "little") if 2 <= len(given) else 0
+    card, frames = given[2 : 2 + length], given[2 + length :]
+    if 2048 < length or 32768 < len(frames):
+        lines = ["input too long"]
+    else:
+        try:
+            lines = listed(Card.read(card), frames)
+        except Refused as refused:
+            lines = [f"refused {refused.number} at {refused.place}"]
+    return "".join(line + "\n" for line in lines).encode()
+
+
+def listed(card, frames):
+    """The lines under an accepted card, or the refusal of a frame."""
+    n = card.k + card.p
+    for time, frame in enumerate(frames):
+        if frame >> n:
+            raise Refused(11, time)
+    handed_out = card.received(frames)
+    lines = [f"card {card.number} k {card.k} n {n} m {card.m}"]
+    for time, frame in enumerate(handed_out):
+        lines.append(" ".join(str(number) for number in [time] + [frame >> i & 1 for i in range(card.k)]))
+    return lines + [f"end {len(handed_out)}"]
+
+
+def framed(card, frames):
+    """An input of the listing program: a two-byte card length, the card's bytes, the frames."""
+    return len(card).to_bytes(2, "little") + card + bytes(frames)
+
+
+# The cards on the bench.
+P = Card(7, 1, 2, 1, [[3]], [[[1], [2]]])
+Q = Card(8, 1, 2, 3, [[11]], [[[1], [2], [8]]])
+R = Card(9, 1, 2, 5, [[57]], [[[1], [8], [16], [2 | 32]]])
+T = Card(10, 2, 3, 2, [[3], [5]], [[[1], [2]], [[1], [4]]])
+assert P.bytes() == bytes.fromhex("00 07 01 01 00 03 00 00 00 02 01 01 00 00 00 01 02 00 00 00")
+assert listing(framed(P.bytes(), [3, 3, 3, 2])) == b"card 7 k 1 n 2 m 1\n0 1\n1 0\n2 1\nend 3\n"
