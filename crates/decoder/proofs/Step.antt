@@ -15,7 +15,7 @@ use Rattle.bits.specs.Sums.{sumBelow}
 use Rattle.bits.specs.Digits.{bit, shiftUp}
 use Rattle.bits.proofs.Cases.{le-or-lt}
 use Rattle.bits.proofs.Sums.{sum-same, sum-none}
-use Rattle.bits.proofs.Lists.{part-at}
+use Rattle.bits.proofs.Lists.{upTo-at, part-at}
 use Rattle.bits.proofs.Back.{back-in}
 use Rattle.bits.proofs.Digits.{bit-lt, bit-suc, bit-high, bit-xor, bit-masks, place-same, place-other, from-digits-same}
 use Rattle.bits.proofs.Words.{shift-digit}
@@ -26,7 +26,7 @@ use Rattle.code.specs.declared.Card.{Card}
 use Rattle.code.proofs.Registers.{in-table}
 use Rattle.code.proofs.Registers.{HistoryWith, parity-next}
 use Rattle.majority.specs.Rule.{syndrome, cleared, decideFrame, decided, corrected}
-use Rattle.decoder.specs.Registers.{syndromeBy, withSyndromes, correctedBy, feedbackBy, fedBackBy}
+use Rattle.decoder.specs.Registers.{syndromeBy, withSyndromes, correctedBy, feedbackBy, takenOutBy, movedOn, fedBackBy}
 use Rattle.majority.specs.Voting.{decideBy}
 use Rattle.majority.proofs.Voting.{decide-is}
 use Rattle.majority.proofs.Streams.{decided-length, decided-at}
@@ -122,14 +122,15 @@ module _ (c : Card) (G : Guarantees c) (frames : List ℕ) (t u : ℕ) (hu : u �
 
     -- the decided errors taken out, and the registers moved on
     pub fed-next : SyndromesAt c frames (suc u) (suc t) (fedBackBy y (c .generators) (decideFrame c frames (decided c frames u) u) (c .k) (c .p))
-    unfolding fedBackBy decided
+    unfolding fedBackBy takenOutBy movedOn decided
     fed-next j a hj =
         let errors = decided c frames u in
         let e = decideFrame c frames errors u in
         let x = getD y j 0 in
         let z = sumBelow (c .k) (λ i. generator c i j (suc a) * bit e i) in
-        ap (λ (w : ℕ). bit w a) (part-at (λ b. bitXor (getD y b 0) (feedbackBy (c .generators) e (c .k) b) / 2) (replicate 8 0) (c .p) j hj)
-        ∙ sym (bit-suc (bitXor x (feedbackBy (c .generators) e (c .k) j)) a)
+        ap (λ (w : ℕ). bit w a) (upTo-at 8 (λ b. getD (takenOutBy y (c .generators) e (c .k) (c .p)) b 0 / 2) j (omega (arith, G .n-most)))
+        ∙ sym (bit-suc (getD (takenOutBy y (c .generators) e (c .k) (c .p)) j 0) a)
+        ∙ ap (λ (w : ℕ). bit w (suc a)) (part-at (λ b. bitXor (getD y b 0) (feedbackBy (c .generators) e (c .k) b)) (replicate 8 0) (c .p) j hj)
         ∙ bit-xor x (feedbackBy (c .generators) e (c .k) j) (suc a)
         ∙ ap₂ (λ (v w : ℕ). (v + w) % 2) (Y j (suc a) hj) (fed e j (suc a) hj)
         ∙ mod-right (held c frames errors u (suc t) j (suc a)) z

@@ -27,9 +27,17 @@ correctedBy h e k m = fromDigits k (λ i. (bit (getD h i 0) m + bit e i) % 2)
 unfoldable pub feedbackBy : List ℕ → ℕ → ℕ → ℕ → ℕ
 feedbackBy g e k j = xorBelow k (λ i. generatorMask g i j * bit e i)
 
--- the syndrome registers with the decided errors taken out, and moved on to the next frame
+-- the syndrome registers with the decided errors e taken out
+unfoldable pub takenOutBy : List ℕ → List ℕ → ℕ → ℕ → ℕ → List ℕ
+takenOutBy y g e k p = upTo p (λ j. bitXor (getD y j 0) (feedbackBy g e k j)) ++ drop p (replicate 8 0)
+
+-- the syndrome registers for the next frame, every digit a place further
+unfoldable pub movedOn : List ℕ → List ℕ
+movedOn y = upTo 8 (λ j. getD y j 0 / 2)
+
+-- the decided errors e fed back
 unfoldable pub fedBackBy : List ℕ → List ℕ → ℕ → ℕ → ℕ → List ℕ
-fedBackBy y g e k p = upTo p (λ j. bitXor (getD y j 0) (feedbackBy g e k j) / 2) ++ drop p (replicate 8 0)
+fedBackBy y g e k p = movedOn (takenOutBy y g e k p)
 
 -- the ones of the first p registers
 unfoldable pub onesBy : List ℕ → ℕ → ℕ

@@ -143,7 +143,8 @@ fn hand_out(s: Session) -> Received
     let p = bits::at_most(card.p, 8);
     let errors = majority::decide(&card.counts, &card.checks, &held, k, p);
     let frame = registers::corrected(&history, errors, k, card.m);
-    let syndromes = registers::fed_back(&held, &card.generators, errors, k, p);
+    let cleared = registers::taken_out(&held, &card.generators, errors, k, p);
+    let syndromes = registers::moved_on(&cleared);
     Received {
         answer: Answer::Frame(frame),
         session: Session {

@@ -1,5 +1,5 @@
 -- The loop has filled the registers of the parity streams that it passed.
-use Prim.Native.Nat.{ℕ, _-_, _/_, _≤_}
+use Prim.Native.Nat.{_-_, _≤_}
 use mathlib.Core.Path.{_≡_, refl, ap₂, _∙_}
 use mathlib.Core.List.{_++_}
 use native.Mathlib.Omega.{arith}
@@ -7,13 +7,13 @@ use lib.ListN.{getD, drop, replicate}
 use lib.Bits.{bitXor}
 use Rattle.bits.specs.Sums.{upTo}
 use Rattle.bits.proofs.Lists.{part-step, part-end}
-use Rattle.decoder.specs.Registers.{feedbackBy, fedBackBy}
-use Rattle.decoder.proofs.registers.fed_back.Statement.{statement}
-use Rattle.decoder.proofs.registers.fed_back.Tie as tie
+use Rattle.decoder.specs.Registers.{feedbackBy, takenOutBy}
+use Rattle.decoder.proofs.registers.taken_out.Statement.{statement}
+use Rattle.decoder.proofs.registers.taken_out.Tie as tie
 
 abbrev Inv-loop : tie.InvT-loop
 Inv-loop held generators errors k p next₀ j₀ next j =
-    (j ≤ p) × (next ≡ upTo j (λ b. bitXor (getD held b 0) (feedbackBy generators errors k b) / 2) ++ drop j (replicate 8 0))
+    (j ≤ p) × (next ≡ upTo j (λ b. bitXor (getD held b 0) (feedbackBy generators errors k b)) ++ drop j (replicate 8 0))
 
 abbrev μ-loop : tie.MeasureT-loop
 μ-loop held generators errors k p next₀ j₀ next j = p - j
@@ -22,11 +22,11 @@ loop-holds : tie.Need-loop-holds Inv-loop μ-loop
 unfolding upTo
 loop-holds c = (omega arith, refl)
 
-word-requires : tie.Need-word-requires Inv-loop μ-loop
-word-requires c κs = tt
-
 feedback-requires : tie.Need-feedback-requires Inv-loop μ-loop
 feedback-requires c κs = tt
+
+word-requires : tie.Need-word-requires Inv-loop μ-loop
+word-requires c κs = tt
 
 mul-next : tie.Need-mul-next Inv-loop μ-loop
 mul-next c = omega arith
@@ -45,26 +45,26 @@ loop-again c =
     let l = c .before .before .before .before .loop in
     let a = c .before .before .before .before .before .args in (
       omega arith,
-      part-step (λ b. bitXor (getD (a .held .now) b 0) (feedbackBy (a .generators .now) (a .errors) (a .k) b) / 2) (replicate 8 0) (l .j) (l .next) _ (omega arith) (l .inv .1)
-          (ap₂ (λ (x y : ℕ). bitXor x y / 2) (c .before .word .ensures) (c .feedback .ensures)),
+      part-step (λ b. bitXor (getD (a .held .now) b 0) (feedbackBy (a .generators .now) (a .errors) (a .k) b)) (replicate 8 0) (l .j) (l .next) _ (omega arith) (l .inv .1)
+          (ap₂ bitXor (c .word .ensures) (c .before .before .feedback .ensures)),
     )
 
 returns : tie.Need-returns Inv-loop μ-loop
-unfolding fedBackBy
+unfolding takenOutBy
 returns c =
     let a = c .before .before .args in
     c .before .loop .inv .1
-    ∙ part-end (λ b. bitXor (getD (a .held .now) b 0) (feedbackBy (a .generators .now) (a .errors) (a .k) b) / 2) (replicate 8 0) (c .before .loop .inv .0) (c .loop-test .left)
+    ∙ part-end (λ b. bitXor (getD (a .held .now) b 0) (feedbackBy (a .generators .now) (a .errors) (a .k) b)) (replicate 8 0) (c .before .loop .inv .0) (c .loop-test .left)
 
-pub fed-back-spec : {M : Type 1} → statement M
-fed-back-spec =
+pub taken-out-spec : {M : Type 1} → statement M
+taken-out-spec =
     tie.close
     (tie.spec
     Inv-loop
     μ-loop
     loop-holds
-    word-requires
     feedback-requires
+    word-requires
     mul-next
     array-write-next
     add-j
