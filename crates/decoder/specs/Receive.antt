@@ -7,6 +7,7 @@ use mathlib.Core.Bool.{cond}
 use mathlib.Core.List.{List}
 use lib.ListN.{replicate}
 use lib.Dec.{ltb, eqb}
+use Rattle.code.specs.Code.{mostFrames}
 use Rattle.code.specs.Registers.{historyBy}
 use Rattle.code.specs.declared.Card.{Card}
 use Rattle.decoder.specs.Readings.{Yield, yields, refuses, readByteOf, readFrameOf}
@@ -85,7 +86,7 @@ yieldTaken s (refuses n) = refusedOf s n
 -- 14, the frame's card number isn't the session's; then 15, 1,048,576 frames received; then 11 or 12, the frame's own refusal
 unfoldable pub receiveOf : Session → ℕ → Yield → Reply
 receiveOf s number y =
-    cond (eqb number (s .card .number)) (cond (ltb (s .received) 1048576) (yieldTaken s y) (refusedOf s 15)) (refusedOf s 14)
+    cond (eqb number (s .card .number)) (cond (ltb (s .received) mostFrames) (yieldTaken s y) (refusedOf s 15)) (refusedOf s 14)
 
 -- a frame as a byte
 unfoldable pub receiveByteOf : Session → ℕ → ℕ → Reply

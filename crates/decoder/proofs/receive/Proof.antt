@@ -14,6 +14,9 @@ returns c =
     let a = c .before .before .before .args in
     c .refused .ensures ∙ sym (other-number (a .s) (a .number) (frameYieldOf (a .read)) (c .before .if1 .taken))
 
+cast-if2 : tie.Need-cast-if2
+cast-if2 c = search needs
+
 refused-requires-2 : tie.Need-refused-requires-2
 refused-requires-2 c κs = search needs
 
@@ -56,6 +59,7 @@ receive-spec =
     (tie.spec
     refused-requires
     returns
+    cast-if2
     refused-requires-2
     returns-2
     enum-known-read
