@@ -42,10 +42,14 @@ openOf c = freshOf c 0
 unfoldable pub historyWith : Session → ℕ → List ℕ
 historyWith s f = historyBy (s .history) (kOf (s .card)) f
 
+-- where its syndromes are put in: m after the frame that is decided next, at the start less
+abbrev pub placeOf : ℕ → ℕ → ℕ
+placeOf received m = min received m
+
 -- the syndrome registers with the syndromes of the frame f
 unfoldable pub syndromesWith : Session → ℕ → List ℕ
 syndromesWith s f =
-    withSyndromes (s .syndromes) (s .card .generators) (historyWith s f) (kOf (s .card)) (pOf (s .card)) f (min (s .received) (s .card .m))
+    withSyndromes (s .syndromes) (s .card .generators) (historyWith s f) (kOf (s .card)) (pOf (s .card)) f (placeOf (s .received) (s .card .m))
 
 -- the session with the frame f, and nothing decided yet
 unfoldable pub withFrame : Session → ℕ → Session

@@ -1,19 +1,18 @@
 -- The loop has filled the registers of the parity streams that it passed.
 use Prim.Native.Nat.{_-_, _≤_}
-use mathlib.Core.Path.{_≡_, refl, ap₂, _∙_}
+use mathlib.Core.Path.{_≡_, refl, _∙_}
 use mathlib.Core.List.{_++_}
 use native.Mathlib.Omega.{arith}
-use lib.ListN.{getD, drop, replicate}
-use lib.Bits.{bitXor}
+use lib.ListN.{drop, replicate}
 use Rattle.bits.specs.Sums.{upTo}
 use Rattle.bits.proofs.Lists.{part-step, part-end}
-use Rattle.decoder.specs.Registers.{feedbackBy, takenOutBy}
+use Rattle.decoder.specs.Registers.{clearedBy, takenOutBy}
 use Rattle.decoder.proofs.registers.taken_out.Statement.{statement}
 use Rattle.decoder.proofs.registers.taken_out.Tie as tie
 
 abbrev Inv-loop : tie.InvT-loop
 Inv-loop held generators errors k p next₀ j₀ next j =
-    (j ≤ p) × (next ≡ upTo j (λ b. bitXor (getD held b 0) (feedbackBy generators errors k b)) ++ drop j (replicate 8 0))
+    (j ≤ p) × (next ≡ upTo j (clearedBy held generators errors k) ++ drop j (replicate 8 0))
 
 abbrev μ-loop : tie.MeasureT-loop
 μ-loop held generators errors k p next₀ j₀ next j = p - j
@@ -41,12 +40,13 @@ loop-less : tie.Need-loop-less Inv-loop μ-loop
 loop-less c = omega arith
 
 loop-again : tie.Need-loop-again Inv-loop μ-loop
+unfolding clearedBy
 loop-again c =
     let l = c .before .before .before .before .loop in
     let a = c .before .before .before .before .before .args in (
       omega arith,
-      part-step (λ b. bitXor (getD (a .held .now) b 0) (feedbackBy (a .generators .now) (a .errors) (a .k) b)) (replicate 8 0) (l .j) (l .next) _ (omega arith) (l .inv .1)
-          (ap₂ bitXor (c .word .ensures) (c .before .before .feedback .ensures)),
+      part-step (clearedBy (a .held .now) (a .generators .now) (a .errors) (a .k)) (replicate 8 0) (l .j) (l .next) _ (omega arith) (l .inv .1)
+          (cc (c .word .ensures, c .before .before .feedback .ensures)),
     )
 
 returns : tie.Need-returns Inv-loop μ-loop
@@ -54,7 +54,7 @@ unfolding takenOutBy
 returns c =
     let a = c .before .before .args in
     c .before .loop .inv .1
-    ∙ part-end (λ b. bitXor (getD (a .held .now) b 0) (feedbackBy (a .generators .now) (a .errors) (a .k) b)) (replicate 8 0) (c .before .loop .inv .0) (c .loop-test .left)
+    ∙ part-end (clearedBy (a .held .now) (a .generators .now) (a .errors) (a .k)) (replicate 8 0) (c .before .loop .inv .0) (c .loop-test .left)
 
 pub taken-out-spec : {M : Type 1} → statement M
 taken-out-spec =
