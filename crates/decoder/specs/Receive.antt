@@ -42,7 +42,7 @@ openOf c = freshOf c 0
 unfoldable pub historyWith : Session → ℕ → List ℕ
 historyWith s f = historyBy (s .history) (kOf (s .card)) f
 
--- where its syndromes are put in: m after the frame that is decided next, at the start less
+-- the place of its syndromes: m after the frame that is decided next, less at the start
 abbrev pub placeOf : ℕ → ℕ → ℕ
 placeOf received m = min received m
 
