@@ -30,12 +30,12 @@ pub fn generator(generators: &[u32; 32], i: usize, j: usize) -> u32
     0
 }
 
-// The register with one digit more at its low end.
+// The register with one digit more at its low end; its oldest digit leaves the word.
 fn shifted_in(x: u32, digit: u32) -> u32
     requires { ⌜ digit < 2 ⌝ }
     ensures { λ r. ⌜ r ≡ shiftIn x digit ⌝ }
 {
-    x % 0x8000_0000 * 2 + digit
+    (x << 1) + digit
 }
 
 // The history registers of k information streams after one frame more.

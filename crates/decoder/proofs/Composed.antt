@@ -4,29 +4,25 @@ use mathlib.Core.Path.{_≡_, ap, _∙_}
 use mathlib.Core.List.{List}
 use Rattle.code.specs.Registers.{historyBy}
 use Rattle.majority.specs.Voting.{decideBy}
-use Rattle.decoder.specs.Registers.{withSyndromes, correctedBy, fedBackBy, onesBy}
+use Rattle.decoder.specs.Registers.{withSyndromes, correctedBy, takenOutBy, movedOn, fedBackBy}
 use Rattle.decoder.specs.Readings.{Yield, readByteOf, readFrameOf}
 use Rattle.decoder.specs.Answers.{Reply, frame}
-use Rattle.decoder.specs.Receive.{streamsOf, historyWith, syndromesWith, withFrame, errorsOf, handingOf, receiveOf, receiveByteOf, receiveReadingsOf, linkFigureOf}
+use Rattle.decoder.specs.Receive.{streamsOf, historyWith, placeOf, syndromesWith, withFrame, errorsOf, handingOf, receiveOf, receiveByteOf, receiveReadingsOf}
 use Rattle.decoder.specs.declared.Session.{Session}
 use Rattle.decoder.specs.declared.Reading.{Reading}
 
 module _ (s : Session) {k p : ℕ} (ek : k ≡ min (s .card .k) 4) (ep : p ≡ min (s .card .p) 8) where
-  pub with-frame-is : (f : ℕ) {place : ℕ} {history syndromes : List ℕ} → place ≡ min (s .received) (s .card .m) → history ≡ historyBy (s .history) k f
+  pub with-frame-is : (f : ℕ) {place : ℕ} {history syndromes : List ℕ} → place ≡ placeOf (s .received) (s .card .m) → history ≡ historyBy (s .history) k f
       → syndromes ≡ withSyndromes (s .syndromes) (s .card .generators) history k p f place
       → record { card = s .card; history = history; syndromes = syndromes; received = s .received + 1 } ≡ withFrame s f
   unfolding withFrame syndromesWith historyWith
   with-frame-is f el eh es = cc (ek, ep, el, eh, es)
 
-  pub handing-is : {errors f : ℕ} {syndromes : List ℕ} → errors ≡ decideBy (s .card .counts) (s .card .checks) (s .syndromes) k p
-      → f ≡ correctedBy (s .history) errors k (s .card .m) → syndromes ≡ fedBackBy (s .syndromes) (s .card .generators) errors k p
+  pub handing-is : {errors f : ℕ} {cleared syndromes : List ℕ} → errors ≡ decideBy (s .card .counts) (s .card .checks) (s .syndromes) k p
+      → f ≡ correctedBy (s .history) errors k (s .card .m) → cleared ≡ takenOutBy (s .syndromes) (s .card .generators) errors k p → syndromes ≡ movedOn cleared
       → record { answer = frame f; session = record { card = s .card; history = s .history; syndromes = syndromes; received = s .received } } ≡ handingOf s
-  unfolding handingOf errorsOf
-  handing-is ee ef es = cc (ek, ep, ee, ef, es)
-
-pub figure-is : (s : Session) {p r : ℕ} → p ≡ min (s .card .p) 8 → r ≡ onesBy (s .syndromes) p → r ≡ linkFigureOf s
-unfolding linkFigureOf
-figure-is s ep er = er ∙ ap (λ p. onesBy (s .syndromes) p) ep
+  unfolding handingOf errorsOf fedBackBy
+  handing-is ee ef et es = cc (ek, ep, ee, ef, et, es)
 
 module _ (s : Session) (number : ℕ) {n : ℕ} (en : n ≡ streamsOf (s .card .k) (s .card .p)) {y : Yield} {r : Reply} (er : r ≡ receiveOf s number y) where
   pub byte-is : (f : ℕ) → y ≡ readByteOf f n → r ≡ receiveByteOf s number f

@@ -1,5 +1,5 @@
 -- Any list of calls on a session follows the rule: the answers to the calls that are taken are the rule's, and the registers hold its syndromes.
-use Prim.Native.Nat.{ℕ, suc, _+_, _-_, _≤_, _<_, min}
+use Prim.Native.Nat.{ℕ, suc, _+_, _-_, _≤_, _<_}
 use mathlib.Core.Path.{_≡_, refl, sym, ap, ap₂, _∙_}
 use mathlib.Core.Bool.{Bool, true, false, cond}
 use mathlib.Core.Logic.{⊎-elim}
@@ -19,7 +19,7 @@ use Rattle.majority.specs.Rule.{decideFrame, decided}
 use Rattle.majority.specs.Voting.{decideBy}
 use Rattle.decoder.specs.Registers.{withSyndromes, correctedBy, fedBackBy}
 use Rattle.decoder.specs.Answers.{Given, waiting, frame, Reply}
-use Rattle.decoder.specs.Receive.{kOf, pOf, historyWith, syndromesWith, withFrame, errorsOf, handingOf, takenOf, refusedOf}
+use Rattle.decoder.specs.Receive.{kOf, pOf, historyWith, placeOf, syndromesWith, withFrame, errorsOf, handingOf, takenOf, refusedOf}
 use Rattle.decoder.specs.Calls.{Call, replyOf, frameIn, taken, takenFrames, handedBy, handedOut, takenAnswers, sessionAfter, answersBy}
 use Rattle.decoder.specs.declared.Session.{Session}
 use Rattle.decoder.proofs.Step.{SyndromesAt, syndromes-next, decide-next, corrected-next, fed-next}
@@ -43,7 +43,7 @@ module _ (c : Card) (G : Guarantees c) (h y : List ℕ) (t f : ℕ) where
   h′ = historyBy h (c .k) f
 
   abbrev y′ : List ℕ
-  y′ = withSyndromes y (c .generators) (historyBy h (c .k) f) (c .k) (c .p) f (min t (c .m))
+  y′ = withSyndromes y (c .generators) (historyBy h (c .k) f) (c .k) (c .p) f (placeOf t (c .m))
 
   with-frame : withFrame (session c h y t) f ≡ session c h′ y′ (suc t)
   unfolding withFrame syndromesWith historyWith
@@ -149,7 +149,7 @@ module _ (c : Card) (G : Guarantees c) (frames : List ℕ) where
       let e₁ : drop (suc t) frames ≡ rest = rest-is frames t f rest e₀ in
       let hn : t < length frames = not-last frames t f rest e₀ in
       let g = historyBy h (c .k) f in
-      let z = withSyndromes y (c .generators) g (c .k) (c .p) f (min t (c .m)) in
+      let z = withSyndromes y (c .generators) g (c .k) (c .p) f (placeOf t (c .m)) in
       let H′ : HistoryWith c frames t g = history-next c G frames t h f (λ i l. digits-at frames t f rest e₀ i) H in
       let Y′ : SyndromesAt c frames u (suc t) z = syndromes-next c G frames t u refl g H′ f hf y Y in
       ⊎-elim

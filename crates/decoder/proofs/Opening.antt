@@ -3,6 +3,7 @@ use Prim.Native.Nat.{ℕ}
 use mathlib.Core.Path.{_≡_, sym, ap, _∙_, subst}
 use mathlib.Core.List.{List}
 use native.Mathlib.Nat.{le-refl}
+use Rattle.code.specs.Code.{mostFrames}
 use Rattle.code.specs.Guarantees.{Guarantees}
 use Rattle.card.specs.Outcome.{Outcome, accepted, refused, outcomeOf, CardOutcome}
 use Rattle.card.specs.Promise.{CardPromise}
@@ -34,8 +35,8 @@ refused-other (readings number levels) ne = other-number closed number _ ne
 
 refused-own : (call : Call) → numberIn call ≡ closed .card .number → replyOf closed call ≡ refusedOf closed 15
 unfolding numberIn replyOf receiveByteOf receiveReadingsOf closed
-refused-own (byte number f) e = no-room closed number _ e (le-refl 1048576)
-refused-own (readings number levels) e = no-room closed number _ e (le-refl 1048576)
+refused-own (byte number f) e = no-room closed number _ e (le-refl mostFrames)
+refused-own (readings number levels) e = no-room closed number _ e (le-refl mostFrames)
 
 module _ (bytes : List ℕ) (read : CardRead) (promise : CardPromise bytes read) (s : Session) where
   outcome-is : outcomeOf (read .verdict) ≡ readCard bytes .outcome
@@ -55,11 +56,11 @@ module _ (bytes : List ℕ) (read : CardRead) (promise : CardPromise bytes read)
         shut = λ n offset w. absurd (not-both e w);
       }
 
-  pub opened-refused : {n at : ℕ} → outcomeOf (read .verdict) ≡ refused n at → s ≡ freshOf (read .card) 1048576
+  pub opened-refused : {n at : ℕ} → outcomeOf (read .verdict) ≡ refused n at → s ≡ freshOf (read .card) mostFrames
       → OpenPromise bytes (record { verdict = read .verdict; session = s })
   unfolding sessionFor closed
   opened-refused e q =
-      let own : s ≡ closed = q ∙ ap (λ (c : Card). freshOf c 1048576) (card-is ∙ refused-card bytes (sym outcome-is ∙ e)) in
+      let own : s ≡ closed = q ∙ ap (λ (c : Card). freshOf c mostFrames) (card-is ∙ refused-card bytes (sym outcome-is ∙ e)) in
       record {
         verdict-is = outcome-is;
         session-is = own ∙ ap (λ (o : Outcome). sessionFor o (readCard bytes .card)) (sym e ∙ outcome-is);

@@ -7,6 +7,7 @@ use mathlib.Core.List.{List}
 use native.Mathlib.Omega.{arith}
 use lib.Dec.{ltb, eqb}
 use borrow.Author.Tests.{eq-eqb, ne-eqb, lt-ltb, le-ltb, eqb-true, eqb-false, ltb-true, ltb-false}
+use Rattle.code.specs.Code.{mostFrames}
 use Rattle.code.specs.Guarantees.{Guarantees}
 use Rattle.code.specs.declared.Card.{Card}
 use Rattle.decoder.specs.Answers.{Reply, waiting}
@@ -23,13 +24,13 @@ module _ (s : Session) (number : ℕ) (y : Yield) where
   unfolding receiveOf
   other-number h = simp (ne-eqb number (s .card .number) h)
 
-  pub no-room : number ≡ s .card .number → 1048576 ≤ s .received → receiveOf s number y ≡ refusedOf s 15
+  pub no-room : number ≡ s .card .number → mostFrames ≤ s .received → receiveOf s number y ≡ refusedOf s 15
   unfolding receiveOf
-  no-room e h = simp (eq-eqb number (s .card .number) e, le-ltb (s .received) 1048576 h)
+  no-room e h = simp (eq-eqb number (s .card .number) e, le-ltb (s .received) mostFrames h)
 
-  pub admitted : number ≡ s .card .number → s .received < 1048576 → receiveOf s number y ≡ yieldTaken s y
+  pub admitted : number ≡ s .card .number → s .received < mostFrames → receiveOf s number y ≡ yieldTaken s y
   unfolding receiveOf
-  admitted e h = simp (eq-eqb number (s .card .number) e, lt-ltb (s .received) 1048576 h)
+  admitted e h = simp (eq-eqb number (s .card .number) e, lt-ltb (s .received) mostFrames h)
 
 module _ (s : Session) (f : ℕ) where
   pub taken-waiting : s .received < s .card .m → takenOf s f ≡ record { answer = waiting; session = withFrame s f }
@@ -68,19 +69,19 @@ abbrev Settled : Session → Bool → ℕ → Reply → Type 0
 Settled s ok f r = ((ok ≡ true) × (r ≡ takenOf s f)) ⊎ ((ok ≡ false) × (n : ℕ) × (r ≡ refusedOf s n))
 
 by-conditions : (s : Session) (number f : ℕ) (ok : Bool) (y : Yield) → Yielded ok f y
-    → Settled s (eqb number (s .card .number) && ltb (s .received) 1048576 && ok) f (receiveOf s number y)
+    → Settled s (eqb number (s .card .number) && ltb (s .received) mostFrames && ok) f (receiveOf s number y)
 by-conditions s number f ok y yielded = numbered (eqb number (s .card .number)) refl
   where
-    framed : number ≡ s .card .number → s .received < 1048576 → Yielded ok f y → Settled s ok f (receiveOf s number y)
+    framed : number ≡ s .card .number → s .received < mostFrames → Yielded ok f y → Settled s ok f (receiveOf s number y)
     framed e l (inl w) = unfold yieldTaken in inl (w .0, admitted s number y e l ∙ ap (yieldTaken s) (w .1))
     framed e l (inr w) = unfold yieldTaken in inr (w .0, w .1, admitted s number y e l ∙ ap (yieldTaken s) (w .2))
 
-    counted : number ≡ s .card .number → (b : Bool) → ltb (s .received) 1048576 ≡ b → Settled s (true && b && ok) f (receiveOf s number y)
+    counted : number ≡ s .card .number → (b : Bool) → ltb (s .received) mostFrames ≡ b → Settled s (true && b && ok) f (receiveOf s number y)
     counted e true q = framed e (ltb-true _ _ q) yielded
     counted e false q = inr (refl, 15, no-room s number y e (ltb-false _ _ q))
 
-    numbered : (a : Bool) → eqb number (s .card .number) ≡ a → Settled s (a && ltb (s .received) 1048576 && ok) f (receiveOf s number y)
-    numbered true q = counted (eqb-true _ _ q) (ltb (s .received) 1048576) refl
+    numbered : (a : Bool) → eqb number (s .card .number) ≡ a → Settled s (a && ltb (s .received) mostFrames && ok) f (receiveOf s number y)
+    numbered true q = counted (eqb-true _ _ q) (ltb (s .received) mostFrames) refl
     numbered false q = inr (refl, 14, other-number s number y (eqb-false _ _ q))
 
 -- the streams of an accepted card

@@ -1,6 +1,6 @@
 -- One frame: the registers hold the rule's cleared syndromes before it, with it, and once its errors are fed back.
 -- The whole list of received frames is fixed; the frame of time t comes in, and that of time u = t - m, if there is one, is decided.
-use Prim.Native.Nat.{ℕ, suc, _+_, _-_, _*_, _/_, _%_, _^_, _≤_, _<_, min}
+use Prim.Native.Nat.{ℕ, suc, _+_, _-_, _*_, _/_, _%_, _^_, _≤_, _<_}
 use mathlib.Core.Path.{_≡_, sym, ap, ap₂, _∙_}
 use mathlib.Core.Bool.{cond}
 use mathlib.Core.Logic.{⊎-elim}
@@ -15,7 +15,7 @@ use Rattle.bits.specs.Sums.{sumBelow}
 use Rattle.bits.specs.Digits.{bit, shiftUp}
 use Rattle.bits.proofs.Cases.{le-or-lt}
 use Rattle.bits.proofs.Sums.{sum-same, sum-none}
-use Rattle.bits.proofs.Lists.{part-at}
+use Rattle.bits.proofs.Lists.{upTo-at, part-at}
 use Rattle.bits.proofs.Back.{back-in}
 use Rattle.bits.proofs.Digits.{bit-lt, bit-suc, bit-high, bit-xor, bit-masks, place-same, place-other, from-digits-same}
 use Rattle.bits.proofs.Words.{shift-digit}
@@ -26,7 +26,8 @@ use Rattle.code.specs.declared.Card.{Card}
 use Rattle.code.proofs.Registers.{in-table}
 use Rattle.code.proofs.Registers.{HistoryWith, parity-next}
 use Rattle.majority.specs.Rule.{syndrome, cleared, decideFrame, decided, corrected}
-use Rattle.decoder.specs.Registers.{syndromeBy, withSyndromes, correctedBy, feedbackBy, fedBackBy}
+use Rattle.decoder.specs.Registers.{syndromeBy, withSyndromes, correctedDigit, correctedBy, feedbackBy, clearedBy, takenOutBy, movedOn, fedBackBy}
+use Rattle.decoder.specs.Receive.{placeOf}
 use Rattle.majority.specs.Voting.{decideBy}
 use Rattle.majority.proofs.Voting.{decide-is}
 use Rattle.majority.proofs.Streams.{decided-length, decided-at}
@@ -63,12 +64,12 @@ module _ (c : Card) (G : Guarantees c) (frames : List ℕ) (t u : ℕ) (hu : u �
     unfolding syndromeBy syndrome digit
     syndrome-next j hj = ap₂ (λ (x y : ℕ). (bit x (c .k + j) + y) % 2) hf (parity-next c G frames t h H j hj)
 
-    pub syndromes-next : (y : List ℕ) → SyndromesAt c frames u t y → SyndromesAt c frames u (suc t) (withSyndromes y (c .generators) h (c .k) (c .p) f (min t (c .m)))
+    pub syndromes-next : (y : List ℕ) → SyndromesAt c frames u t y → SyndromesAt c frames u (suc t) (withSyndromes y (c .generators) h (c .k) (c .p) f (placeOf t (c .m)))
     unfolding withSyndromes
     syndromes-next y Y j a hj =
         let errors = decided c frames u in
         let d = syndrome c frames t j in
-        let b = min t (c .m) in
+        let b = placeOf t (c .m) in
         let hd : d < 2 = syndrome-lt c frames t j in
         ap (λ (x : ℕ). bit x a)
         (part-at (λ i. bitXor (getD y i 0) (shiftUp (syndromeBy (c .generators) h (c .k) f i) b)) (replicate 8 0) (c .p) j hj
@@ -90,8 +91,8 @@ module _ (c : Card) (G : Guarantees c) (frames : List ℕ) (t u : ℕ) (hu : u �
         ∙ sym (held-out c frames errors u (suc t) j a (omega arith)))
         (le-or-lt (u + a) t)
       where
-        at-place : (a d : ℕ) → d < 2 → a ≡ min t (c .m) → bit (d * 2 ^ min t (c .m)) a ≡ d
-        at-place a d l e = ap (λ (x : ℕ). bit (d * 2 ^ min t (c .m)) x) e ∙ place-same d (min t (c .m)) l
+        at-place : (a d : ℕ) → d < 2 → a ≡ placeOf t (c .m) → bit (d * 2 ^ placeOf t (c .m)) a ≡ d
+        at-place a d l e = ap (λ (x : ℕ). bit (d * 2 ^ placeOf t (c .m)) x) e ∙ place-same d (placeOf t (c .m)) l
 
   -- ---- the frame of time u is decided
   module _ (hm : c .m ≤ t) (y : List ℕ) (Y : SyndromesAt c frames u (suc t) y) where
@@ -104,7 +105,7 @@ module _ (c : Card) (G : Guarantees c) (frames : List ℕ) (t u : ℕ) (hu : u �
     -- the frame handed out is the rule's, whatever is decided later
     pub corrected-next : (h : List ℕ) → HistoryWith c frames t h → (n : ℕ) → u < n
         → correctedBy h (decideFrame c frames (decided c frames u) u) (c .k) (c .m) ≡ corrected c frames (decided c frames n) u
-    unfolding correctedBy corrected digit
+    unfolding correctedBy correctedDigit corrected digit
     corrected-next h H n l =
         from-digits-same (c .k) _ _
         (λ i li.
@@ -122,14 +123,15 @@ module _ (c : Card) (G : Guarantees c) (frames : List ℕ) (t u : ℕ) (hu : u �
 
     -- the decided errors taken out, and the registers moved on
     pub fed-next : SyndromesAt c frames (suc u) (suc t) (fedBackBy y (c .generators) (decideFrame c frames (decided c frames u) u) (c .k) (c .p))
-    unfolding fedBackBy decided
+    unfolding fedBackBy takenOutBy clearedBy movedOn decided
     fed-next j a hj =
         let errors = decided c frames u in
         let e = decideFrame c frames errors u in
         let x = getD y j 0 in
         let z = sumBelow (c .k) (λ i. generator c i j (suc a) * bit e i) in
-        ap (λ (w : ℕ). bit w a) (part-at (λ b. bitXor (getD y b 0) (feedbackBy (c .generators) e (c .k) b) / 2) (replicate 8 0) (c .p) j hj)
-        ∙ sym (bit-suc (bitXor x (feedbackBy (c .generators) e (c .k) j)) a)
+        ap (λ (w : ℕ). bit w a) (upTo-at 8 (λ b. getD (takenOutBy y (c .generators) e (c .k) (c .p)) b 0 / 2) j (omega (arith, G .n-most)))
+        ∙ sym (bit-suc (getD (takenOutBy y (c .generators) e (c .k) (c .p)) j 0) a)
+        ∙ ap (λ (w : ℕ). bit w (suc a)) (part-at (clearedBy y (c .generators) e (c .k)) (replicate 8 0) (c .p) j hj)
         ∙ bit-xor x (feedbackBy (c .generators) e (c .k) j) (suc a)
         ∙ ap₂ (λ (v w : ℕ). (v + w) % 2) (Y j (suc a) hj) (fed e j (suc a) hj)
         ∙ mod-right (held c frames errors u (suc t) j (suc a)) z

@@ -6,6 +6,7 @@ use mathlib.Core.Bool.{Bool, cond, _&&_}
 use mathlib.Core.List.{List, [], _∷_, _++_, map}
 use lib.ListN.{length, replicate}
 use lib.Dec.{ltb, eqb}
+use Rattle.code.specs.Code.{mostFrames}
 use Rattle.code.specs.declared.Card.{Card}
 use Rattle.majority.specs.Rule.{decoded}
 use Rattle.decoder.specs.Readings.{faults, frameRead}
@@ -44,7 +45,7 @@ readable n (readings number levels) = eqb (faults levels n) 0
 -- "a frame is taken if its call meets none of the refusals": neither 14, nor 15, nor 11 or 12
 unfoldable pub taken : Session → Call → Bool
 taken s call =
-    eqb (numberIn call) (s .card .number) && ltb (s .received) 1048576 && readable (s .card .k + s .card .p) call
+    eqb (numberIn call) (s .card .number) && ltb (s .received) mostFrames && readable (s .card .k + s .card .p) call
 
 -- the frames taken, in the order of the calls
 unfoldable pub takenFrames : Session → List Call → List ℕ

@@ -7,6 +7,7 @@ use mathlib.Core.List.{List}
 use Rattle.card.specs.Fields.{emptyCard}
 use Rattle.card.specs.Outcome.{Outcome, accepted, refused, outcomeOf}
 use Rattle.card.specs.Reading.{readCard}
+use Rattle.code.specs.Code.{mostFrames}
 use Rattle.code.specs.declared.Card.{Card}
 use Rattle.decoder.specs.Calls.{Call, numberIn, replyOf}
 use Rattle.decoder.specs.Claims.{Claims}
@@ -16,7 +17,7 @@ use Rattle.decoder.specs.declared.Session.{Session}
 
 -- the session of a refused opening: the empty card, and no room for a frame
 unfoldable pub closed : Session
-closed = freshOf emptyCard 1048576
+closed = freshOf emptyCard mostFrames
 
 -- the session that reading a card leads to
 unfoldable pub sessionFor : Outcome → Card → Session

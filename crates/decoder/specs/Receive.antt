@@ -7,6 +7,7 @@ use mathlib.Core.Bool.{cond}
 use mathlib.Core.List.{List}
 use lib.ListN.{replicate}
 use lib.Dec.{ltb, eqb}
+use Rattle.code.specs.Code.{mostFrames}
 use Rattle.code.specs.Registers.{historyBy}
 use Rattle.code.specs.declared.Card.{Card}
 use Rattle.decoder.specs.Readings.{Yield, yields, refuses, readByteOf, readFrameOf}
@@ -41,10 +42,14 @@ openOf c = freshOf c 0
 unfoldable pub historyWith : Session → ℕ → List ℕ
 historyWith s f = historyBy (s .history) (kOf (s .card)) f
 
+-- the place of its syndromes: m after the frame that is decided next, less at the start
+abbrev pub placeOf : ℕ → ℕ → ℕ
+placeOf received m = min received m
+
 -- the syndrome registers with the syndromes of the frame f
 unfoldable pub syndromesWith : Session → ℕ → List ℕ
 syndromesWith s f =
-    withSyndromes (s .syndromes) (s .card .generators) (historyWith s f) (kOf (s .card)) (pOf (s .card)) f (min (s .received) (s .card .m))
+    withSyndromes (s .syndromes) (s .card .generators) (historyWith s f) (kOf (s .card)) (pOf (s .card)) f (placeOf (s .received) (s .card .m))
 
 -- the session with the frame f, and nothing decided yet
 unfoldable pub withFrame : Session → ℕ → Session
@@ -85,7 +90,7 @@ yieldTaken s (refuses n) = refusedOf s n
 -- 14, the frame's card number isn't the session's; then 15, 1,048,576 frames received; then 11 or 12, the frame's own refusal
 unfoldable pub receiveOf : Session → ℕ → Yield → Reply
 receiveOf s number y =
-    cond (eqb number (s .card .number)) (cond (ltb (s .received) 1048576) (yieldTaken s y) (refusedOf s 15)) (refusedOf s 14)
+    cond (eqb number (s .card .number)) (cond (ltb (s .received) mostFrames) (yieldTaken s y) (refusedOf s 15)) (refusedOf s 14)
 
 -- a frame as a byte
 unfoldable pub receiveByteOf : Session → ℕ → ℕ → Reply

@@ -19,17 +19,33 @@ syndromeBy g h k f j = (bit f (k + j) + parityBy g h k j) % 2
 unfoldable pub withSyndromes : List ℕ → List ℕ → List ℕ → ℕ → ℕ → ℕ → ℕ → List ℕ
 withSyndromes y g h k p f a = upTo p (λ j. bitXor (getD y j 0) (shiftUp (syndromeBy g h k f j) a)) ++ drop p (replicate 8 0)
 
--- the frame handed out: the digits m back, plus the decided errors e
+-- the digit of stream i that is handed out: the one m back, plus its decided error in e
+unfoldable pub correctedDigit : List ℕ → ℕ → ℕ → ℕ → ℕ
+correctedDigit h e m i = (bit (getD h i 0) m + bit e i) % 2
+
+-- the frame handed out
 unfoldable pub correctedBy : List ℕ → ℕ → ℕ → ℕ → ℕ
-correctedBy h e k m = fromDigits k (λ i. (bit (getD h i 0) m + bit e i) % 2)
+correctedBy h e k m = fromDigits k (correctedDigit h e m)
 
 -- what the decided errors e changed in syndrome register j
 unfoldable pub feedbackBy : List ℕ → ℕ → ℕ → ℕ → ℕ
 feedbackBy g e k j = xorBelow k (λ i. generatorMask g i j * bit e i)
 
--- the syndrome registers with the decided errors taken out, and moved on to the next frame
+-- syndrome register j with the decided errors e taken out
+unfoldable pub clearedBy : List ℕ → List ℕ → ℕ → ℕ → ℕ → ℕ
+clearedBy y g e k j = bitXor (getD y j 0) (feedbackBy g e k j)
+
+-- the syndrome registers with the decided errors e taken out
+unfoldable pub takenOutBy : List ℕ → List ℕ → ℕ → ℕ → ℕ → List ℕ
+takenOutBy y g e k p = upTo p (clearedBy y g e k) ++ drop p (replicate 8 0)
+
+-- the syndrome registers for the next frame, every digit a place further
+unfoldable pub movedOn : List ℕ → List ℕ
+movedOn y = upTo 8 (λ j. getD y j 0 / 2)
+
+-- the decided errors e fed back
 unfoldable pub fedBackBy : List ℕ → List ℕ → ℕ → ℕ → ℕ → List ℕ
-fedBackBy y g e k p = upTo p (λ j. bitXor (getD y j 0) (feedbackBy g e k j) / 2) ++ drop p (replicate 8 0)
+fedBackBy y g e k p = movedOn (takenOutBy y g e k p)
 
 -- the ones of the first p registers
 unfoldable pub onesBy : List ℕ → ℕ → ℕ

@@ -5,10 +5,12 @@ mod registers;
 use card::Refusal;
 use card::Verdict;
 use code::Card;
+use code::MOST_FRAMES;
 use readings::ReadFrame;
 ghost use mathlib.Core.Path.{_≡_};
 ghost use Prim.Native.Nat.{_<_};
 ghost use Rattle.card.specs.Refusals.{numberOf};
+ghost use Rattle.code.specs.Code.{mostFrames};
 ghost use Rattle.decoder.specs.Answers.{receivedOf};
 ghost use Rattle.decoder.specs.Opening.{OpenPromise};
 ghost use Rattle.decoder.specs.Readings.{frameYieldOf};
@@ -47,9 +49,6 @@ pub struct Opened {
     pub session: Session,
 }
 
-// A session receives this many frames.
-const MOST_FRAMES: u32 = 1048576;
-
 // A session that holds no digit, with so many frames counted as received.
 fn fresh(card: Card, received: u32) -> Session
     ensures { λ r. ⌜ r ≡ freshOf card received ⌝ }
@@ -78,7 +77,7 @@ pub fn open(card: &[u8]) -> Opened
             refusal: _,
             offset: _,
         } => {
-            let session = fresh(card, MOST_FRAMES);
+            let session = fresh(card, MOST_FRAMES as u32);
             Opened { verdict, session }
         }
     }
@@ -103,7 +102,7 @@ fn refused(s: Session, refusal: Refusal) -> Received
 
 // The session with the digits and the syndromes of a frame more, and nothing decided yet.
 fn with_frame(s: Session, frame: u8) -> Session
-    requires { ⌜ s .received < 1048576 ⌝ }
+    requires { ⌜ s .received < mostFrames ⌝ }
     ensures { λ r. ⌜ r ≡ withFrame s frame ⌝ }
 {
     let card = s.card;
@@ -143,7 +142,8 @@ fn hand_out(s: Session) -> Received
     let p = bits::at_most(card.p, 8);
     let errors = majority::decide(&card.counts, &card.checks, &held, k, p);
     let frame = registers::corrected(&history, errors, k, card.m);
-    let syndromes = registers::fed_back(&held, &card.generators, errors, k, p);
+    let cleared = registers::taken_out(&held, &card.generators, errors, k, p);
+    let syndromes = registers::moved_on(&cleared);
     Received {
         answer: Answer::Frame(frame),
         session: Session {
@@ -157,7 +157,7 @@ fn hand_out(s: Session) -> Received
 
 // A frame that is not refused: the first m give 'waiting', each later one the frame m before it.
 fn take(s: Session, frame: u8) -> Received
-    requires { ⌜ s .received < 1048576 ⌝ }
+    requires { ⌜ s .received < mostFrames ⌝ }
     ensures { λ r. ⌜ receivedOf r ≡ takenOf s frame ⌝ }
 {
     let card = s.card;
@@ -183,7 +183,7 @@ fn receive(s: Session, number: u8, read: ReadFrame) -> Received
         return refused(s, Refusal::OtherCardNumber);
     }
     let received = s.received;
-    if MOST_FRAMES <= received {
+    if MOST_FRAMES <= received as usize {
         return refused(s, Refusal::TooManyFrames);
     }
     match read {

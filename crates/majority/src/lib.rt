@@ -37,7 +37,7 @@ fn votes(checks: &[u32; 512], i: usize, count: usize, syndromes: &[u32; 8], p: u
     let mut word: u32 = 0;
     let mut q = 0;
     while q < count {
-        word = word * 2 + check(checks, i * 128 + q * 8, syndromes, p);
+        word = (word << 1) + check(checks, i * 128 + q * 8, syndromes, p);
         q += 1;
     }
     u32::count_ones(word)

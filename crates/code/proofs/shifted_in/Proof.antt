@@ -4,9 +4,6 @@ use borrow.Author.Needs.{needs}
 use Rattle.code.proofs.shifted_in.Statement.{statement}
 use Rattle.code.proofs.shifted_in.Tie as tie
 
-mul-result : tie.Need-mul-result
-mul-result c = search needs
-
 add-result : tie.Need-add-result
 add-result c = search needs
 
@@ -15,4 +12,4 @@ unfolding shiftIn
 returns c = omega arith
 
 pub shifted-in-spec : {M : Type 1} → statement M
-shifted-in-spec = tie.close (tie.spec mul-result add-result returns)
+shifted-in-spec = tie.close (tie.spec add-result returns)

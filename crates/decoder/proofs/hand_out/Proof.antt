@@ -15,14 +15,17 @@ decide-requires c κs = search needs
 corrected-requires : tie.Need-corrected-requires
 corrected-requires c κs = search needs
 
-fed-back-requires : tie.Need-fed-back-requires
-fed-back-requires c κs = search needs
+taken-out-requires : tie.Need-taken-out-requires
+taken-out-requires c κs = search needs
+
+moved-on-requires : tie.Need-moved-on-requires
+moved-on-requires c κs = search needs
 
 returns : tie.Need-returns
 returns c =
-    let d = c .before .before .before .before .before .before in
+    let d = c .before .before .before .before .before .before .before .before in
     handing-is _ (d .before .before .before .before .before .before .at-most .ensures) (d .before .before .before .before .before .at-most2 .ensures) (d .decide .ensures)
-    (c .before .before .before .before .corrected .ensures) (c .fed-back .ensures)
+    (c .before .before .before .before .before .before .corrected .ensures) (c .before .before .taken-out .ensures) (c .moved-on .ensures)
 
 pub hand-out-spec : {M : Type 1} → statement M
 hand-out-spec =
@@ -32,5 +35,6 @@ hand-out-spec =
     at-most-requires-2
     decide-requires
     corrected-requires
-    fed-back-requires
+    taken-out-requires
+    moved-on-requires
     returns)

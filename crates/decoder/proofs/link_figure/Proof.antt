@@ -1,5 +1,5 @@
 use borrow.Author.Needs.{needs}
-use Rattle.decoder.proofs.Composed.{figure-is}
+use Rattle.decoder.specs.Receive.{linkFigureOf}
 use Rattle.decoder.proofs.link_figure.Statement.{statement}
 use Rattle.decoder.proofs.link_figure.Tie as tie
 
@@ -10,7 +10,8 @@ ones-requires : tie.Need-ones-requires
 ones-requires c κs = search needs
 
 returns : tie.Need-returns
-returns c = figure-is _ (c .before .at-most .ensures) (c .ones .ensures)
+unfolding linkFigureOf
+returns c = rw (← (c .before .at-most .ensures)) (c .ones .ensures)
 
 pub link-figure-spec : {M : Type 1} → statement M
 link-figure-spec = tie.close (tie.spec at-most-requires ones-requires returns)

@@ -17,6 +17,9 @@ fresh-requires c κs = search needs
 enum-told-2 : tie.Need-enum-told-2
 enum-told-2 c = search needs
 
+cast-fresh : tie.Need-cast-fresh
+cast-fresh c = search needs
+
 fresh-requires-2 : tie.Need-fresh-requires-2
 fresh-requires-2 c κs = search needs
 
@@ -40,6 +43,7 @@ open-spec =
     enum-told
     fresh-requires
     enum-told-2
+    cast-fresh
     fresh-requires-2
     returns
     returns-2)

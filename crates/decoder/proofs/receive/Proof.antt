@@ -1,8 +1,9 @@
+use Prim.Native.Nat.{_≤_}
+use native.Mathlib.Omega.{arith}
 use borrow.Author.Needs.{needs}
-use mathlib.Core.Path.{sym, ap, _∙_}
-use Rattle.decoder.specs.Readings.{frameYieldOf}
-use Rattle.decoder.specs.Receive.{yieldTaken}
-use Rattle.decoder.proofs.Outcomes.{other-number, no-room, admitted}
+use borrow.Author.Tests.{eq-eqb, ne-eqb, lt-ltb, le-ltb}
+use Rattle.code.specs.Code.{mostFrames}
+use Rattle.decoder.specs.Receive.{yieldTaken, receiveOf}
 use Rattle.decoder.proofs.receive.Statement.{statement}
 use Rattle.decoder.proofs.receive.Tie as tie
 
@@ -10,17 +11,20 @@ refused-requires : tie.Need-refused-requires
 refused-requires c κs = search needs
 
 returns : tie.Need-returns
-returns c =
-    let a = c .before .before .before .args in
-    c .refused .ensures ∙ sym (other-number (a .s) (a .number) (frameYieldOf (a .read)) (c .before .if1 .taken))
+unfolding receiveOf
+returns c = rw (ne-eqb _ _ (c .before .if1 .taken)) (c .refused .ensures)
+
+cast-if2 : tie.Need-cast-if2
+cast-if2 c = search needs
 
 refused-requires-2 : tie.Need-refused-requires-2
 refused-requires-2 c κs = search needs
 
 returns-2 : tie.Need-returns-2
+unfolding receiveOf
 returns-2 c =
-    let a = c .before .before .before .before .args in
-    c .refused2 .ensures ∙ sym (no-room (a .s) (a .number) (frameYieldOf (a .read)) (c .before .before .if1 .left) (c .before .if2 .taken))
+    let full : mostFrames ≤ c .before .before .before .before .args .s .received = omega arith in
+    rw (eq-eqb _ _ (c .before .before .if1 .left), le-ltb _ _ full) (c .refused2 .ensures)
 
 enum-known-read : tie.Need-enum-known-read
 enum-known-read c = search needs
@@ -35,20 +39,16 @@ refused-requires-3 : tie.Need-refused-requires-3
 refused-requires-3 c κs = search needs
 
 returns-3 : tie.Need-returns-3
-unfolding yieldTaken
+unfolding receiveOf yieldTaken
 returns-3 c =
     let t = c .before .before .before .before in
-    let a = t .before .before .before .args in
-    c .take .ensures
-    ∙ sym (admitted (a .s) (a .number) (frameYieldOf (a .read)) (t .before .if1 .left) (t .if2 .left) ∙ ap (λ r. yieldTaken (a .s) (frameYieldOf r)) (c .before .before .read .given .1))
+    rw (eq-eqb _ _ (t .before .if1 .left), lt-ltb _ _ (t .if2 .left), c .before .before .read .given .1) (c .take .ensures)
 
 returns-4 : tie.Need-returns-4
-unfolding yieldTaken
+unfolding receiveOf yieldTaken
 returns-4 c =
     let t = c .before .before .before .before in
-    let a = t .before .before .before .args in
-    c .refused3 .ensures
-    ∙ sym (admitted (a .s) (a .number) (frameYieldOf (a .read)) (t .before .if1 .left) (t .if2 .left) ∙ ap (λ r. yieldTaken (a .s) (frameYieldOf r)) (c .before .before .read2 .given .1))
+    rw (eq-eqb _ _ (t .before .if1 .left), lt-ltb _ _ (t .if2 .left), c .before .before .read2 .given .1) (c .refused3 .ensures)
 
 pub receive-spec : {M : Type 1} → statement M
 receive-spec =
@@ -56,6 +56,7 @@ receive-spec =
     (tie.spec
     refused-requires
     returns
+    cast-if2
     refused-requires-2
     returns-2
     enum-known-read

@@ -1,9 +1,9 @@
-use mathlib.Core.Path.{sym, ap, _∙_}
+use mathlib.Core.Path.{ap, _∙_}
 use borrow.Author.Needs.{needs}
+use borrow.Author.Tests.{lt-ltb, le-ltb}
 use Rattle.decoder.specs.Answers.{waiting}
-use Rattle.decoder.specs.Receive.{handingOf}
+use Rattle.decoder.specs.Receive.{handingOf, takenOf}
 use Rattle.decoder.specs.declared.Session.{Session}
-use Rattle.decoder.proofs.Outcomes.{taken-waiting, taken-handing}
 use Rattle.decoder.proofs.take.Statement.{statement}
 use Rattle.decoder.proofs.take.Tie as tie
 
@@ -14,17 +14,15 @@ cast-if1 : tie.Need-cast-if1
 cast-if1 c = search needs
 
 returns : tie.Need-returns
-returns c =
-    let a = c .before .before .before .args in
-    ap (λ (s : Session). record { answer = waiting; session = s }) (c .before .with-frame .ensures) ∙ sym (taken-waiting (a .s) (a .frame) (c .if1 .taken))
+unfolding takenOf
+returns c = rw (lt-ltb _ _ (c .if1 .taken)) (ap (λ (s : Session). record { answer = waiting; session = s }) (c .before .with-frame .ensures))
 
 hand-out-requires : tie.Need-hand-out-requires
 hand-out-requires c κs = search needs
 
 returns-2 : tie.Need-returns-2
-returns-2 c =
-    let a = c .before .before .before .before .args in
-    c .hand-out .ensures ∙ ap handingOf (c .before .before .with-frame .ensures) ∙ sym (taken-handing (a .s) (a .frame) (c .before .if1 .left))
+unfolding takenOf
+returns-2 c = rw (le-ltb _ _ (c .before .if1 .left)) (c .hand-out .ensures ∙ ap handingOf (c .before .before .with-frame .ensures))
 
 pub take-spec : {M : Type 1} → statement M
 take-spec = tie.close (tie.spec with-frame-requires cast-if1 returns hand-out-requires returns-2)

@@ -1,5 +1,5 @@
 -- The loop's word has the checks that it passed as its digits.
-use Prim.Native.Nat.{_+_, _-_, _*_, _^_, _≤_, _<_}
+use Prim.Native.Nat.{_+_, _-_, _*_, _%_, _^_, _≤_, _<_}
 use mathlib.Core.Path.{_≡_, refl, _∙_}
 use native.Mathlib.Omega.{arith}
 use lib.Count.{ones}
@@ -23,9 +23,6 @@ loop-holds : tie.Need-loop-holds Inv-loop μ-loop
 unfolding sumBelow ones
 loop-holds c = (omega arith, omega arith, refl)
 
-mul-word : tie.Need-mul-word Inv-loop μ-loop
-mul-word c = omega (arith, pow-mono {i = c .before .loop .q} {j = 15} (omega arith))
-
 mul-check : tie.Need-mul-check Inv-loop μ-loop
 mul-check c = search needs
 
@@ -41,7 +38,7 @@ check-requires c κs = search needs
 add-word : tie.Need-add-word Inv-loop μ-loop
 add-word c =
     let d : c .check .result < 2 = rw (c .check .ensures) (check-lt _ _ _ _) in
-    omega (arith, pow-mono {i = c .before .before .loop .q} {j = 15} (omega arith))
+    omega arith
 
 add-q : tie.Need-add-q Inv-loop μ-loop
 add-q c = search needs
@@ -54,10 +51,11 @@ loop-again c =
     let l = c .before .before .loop in
     let a = c .before .before .before .args in
     let r = c .check .result in
-    let d : r < 2 = rw (c .check .ensures) (check-lt _ _ _ _) in (
+    let d : r < 2 = rw (c .check .ensures) (check-lt _ _ _ _) in
+    let e : l .word * 2 ^ 1 % 2 ^ 32 ≡ l .word * 2 = omega (arith, pow-mono {i = l .q} {j = 15} (omega arith)) in (
       omega arith,
-      word-more (l .word) r (l .q) d (l .inv .1),
-      ones-more (l .word) r d ∙ sum-step (l .q) (λ q. checkBy (a .checks .now) (a .i * 128 + q * 8) (a .syndromes .now) (a .p)) (l .inv .2) (c .check .ensures),
+      rw e (word-more (l .word) r (l .q) d (l .inv .1)),
+      rw e (ones-more (l .word) r d) ∙ sum-step (l .q) (λ q. checkBy (a .checks .now) (a .i * 128 + q * 8) (a .syndromes .now) (a .p)) (l .inv .2) (c .check .ensures),
     )
 
 returns : tie.Need-returns Inv-loop μ-loop
@@ -71,7 +69,6 @@ votes-spec =
     Inv-loop
     μ-loop
     loop-holds
-    mul-word
     mul-check
     mul-check-2
     add-check

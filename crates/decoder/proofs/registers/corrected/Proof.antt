@@ -3,18 +3,17 @@ use Prim.Native.Nat.{ℕ, _+_, _-_, _%_, _^_, _≤_, _<_}
 use mathlib.Core.Path.{_≡_, refl, ap, ap₂, _∙_}
 use native.Mathlib.Nat.{le-antisymm}
 use native.Mathlib.Omega.{arith}
-use lib.ListN.{getD}
 use lib.Pow.{pow-mono}
 use Rattle.bits.specs.Sums.{sumBelow}
 use Rattle.bits.specs.Digits.{bit, fromDigits}
 use Rattle.bits.proofs.Words.{placed-lt, placed-fits, placed-more}
-use Rattle.decoder.specs.Registers.{correctedBy}
+use Rattle.decoder.specs.Registers.{correctedDigit, correctedBy}
 use Rattle.decoder.proofs.registers.corrected.Statement.{statement}
 use Rattle.decoder.proofs.registers.corrected.Tie as tie
 
 abbrev Inv-loop : tie.InvT-loop
 Inv-loop history errors k m frame₀ i₀ frame i =
-    (i ≤ k) × (frame < 2 ^ i) × (frame ≡ fromDigits i (λ b. (bit (getD history b 0) m + bit errors b) % 2))
+    (i ≤ k) × (frame < 2 ^ i) × (frame ≡ fromDigits i (correctedDigit history errors m))
 
 abbrev μ-loop : tie.MeasureT-loop
 μ-loop history errors k m frame₀ i₀ frame i = k - i
@@ -52,6 +51,7 @@ loop-less : tie.Need-loop-less Inv-loop μ-loop
 loop-less c = omega arith
 
 loop-again : tie.Need-loop-again Inv-loop μ-loop
+unfolding correctedDigit
 loop-again c =
     let l = c .before .before .before .before .before .before .loop in
     let a = c .before .before .before .before .before .before .before .args in
@@ -61,7 +61,7 @@ loop-again c =
       omega arith,
       rw (c .shift-up .ensures) (placed-lt (l .frame) d (l .i) (l .inv .1) hd hi),
       ap (λ (x : ℕ). l .frame + x) (c .shift-up .ensures)
-          ∙ placed-more (l .frame) d (l .i) (l .inv .1) hd hi (λ b. (bit (getD (a .history .now) b 0) (a .m) + bit (a .errors) b) % 2) (l .inv .2)
+          ∙ placed-more (l .frame) d (l .i) (l .inv .1) hd hi (correctedDigit (a .history .now) (a .errors) (a .m)) (l .inv .2)
           (ap₂ (λ (x y : ℕ). (x + y) % 2) (c .before .before .digit .ensures ∙ ap (λ (x : ℕ). bit x (a .m)) (c .before .before .before .word .ensures)) (c .before .digit2 .ensures)),
     )
 
@@ -75,7 +75,7 @@ unfolding correctedBy
 returns c =
     let a = c .before .before .args in
     c .before .loop .inv .2
-    ∙ ap (λ (n : ℕ). fromDigits n (λ b. (bit (getD (a .history .now) b 0) (a .m) + bit (a .errors) b) % 2))
+    ∙ ap (λ (n : ℕ). fromDigits n (correctedDigit (a .history .now) (a .errors) (a .m)))
     (le-antisymm (c .before .loop .inv .0) (c .loop-test .left))
 
 pub corrected-spec : {M : Type 1} → statement M
