@@ -17,6 +17,7 @@ use crate::registers::take_in;
 use card::Refusal;
 use card::Verdict;
 use code::Card;
+use code::MOST_FRAMES;
 
 // The first m frames, for which nothing is handed out.
 fn fill(
@@ -116,7 +117,7 @@ fn receive_under(card: Card, input: &[u8], output: &mut [u8]) -> i32
     requires { ⌜ Guarantees card ⌝ }
     ensures { λ r. ⌜ outcome r (now (output .exit)) ≡ receiveUnder card (now (input .entry)) (now (output .entry)) ⌝ }
 {
-    if 1048576 < input.len() {
+    if MOST_FRAMES < input.len() {
         return refused(Refusal::TooManyFrames);
     }
     let k = card.k;

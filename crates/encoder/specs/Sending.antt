@@ -7,6 +7,7 @@ use mathlib.Core.Bool.{Bool, cond}
 use mathlib.Core.List.{List}
 use lib.ListN.{replicate}
 use lib.Dec.{leb, ltb}
+use Rattle.code.specs.Code.{mostFrames}
 use Rattle.code.specs.Registers.{historyBy, frameBy}
 use Rattle.code.specs.declared.Card.{Card}
 use Rattle.encoder.specs.Outcome.{frame, refused, SendOutcome}
@@ -42,7 +43,7 @@ tailBegun s = ltb 0 (s .tail)
 
 -- 15: "sending this one would leave fewer than m of 1,048,576 for the tail"
 abbrev pub noRoom : Session → Bool
-noRoom s = ltb 1048576 (s .sent + 1 + min (s .card .m) 31)
+noRoom s = ltb mostFrames (s .sent + 1 + min (s .card .m) 31)
 
 -- 11: "a frame has a digit beyond its streams"
 abbrev pub digitBeyond : Session → ℕ → Bool
