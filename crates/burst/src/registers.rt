@@ -8,7 +8,7 @@ ghost use lib.ListN.{getD, length};
 ghost use lib.Bits.{bitAnd, bitXor};
 ghost use lib.Dec.{ltb};
 ghost use Rattle.bits.specs.Digits.{shiftUp};
-ghost use Rattle.burst.specs.Registers.{generatorSum, generatorSums, TakenIn, written, takenOut, Corrected};
+ghost use Rattle.burst.specs.Registers.{registers, generatorSum, generatorSums, TakenIn, written, takenOut, Corrected};
 
 // Streams 1 to k of a frame.
 fn information(frame: u8, k: usize) -> u32
@@ -65,7 +65,7 @@ pub(crate) fn take_in(
 ) -> u32
     requires { ⌜ (k ≤ 4) × (k + p ≤ 8) × (m ≤ 31) ⌝ }
     requires { ⌜ (length (now syndromes) ≡ 8) × (length (now coming) ≡ 8) ⌝ }
-    ensures { λ r. ⌜ TakenIn (now (sums .entry)) (now (coming .entry)) (now (syndromes .entry)) k p m frame (now (coming .exit)) (now (syndromes .exit)) r ⌝ }
+    ensures { λ r. ⌜ TakenIn (now (sums .entry)) k p m frame (registers (now (coming .entry)) (now (syndromes .entry))) (registers (now (coming .exit)) (now (syndromes .exit))) r ⌝ }
 {
     let at = bits::index(information(frame, k)) * 8;
     let parities = bits::wide(frame) >> k;
