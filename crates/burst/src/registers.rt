@@ -90,7 +90,8 @@ fn take_out(syndromes: &mut [u32; 8], sums: &[u32; 128], p: usize, errors: u32)
     let at = bits::index(errors) * 8;
     let mut j = 0;
     while j < p {
-        syndromes[j] = syndromes[j] ^ sums[at + j];
+        let change = sums[at + j];
+        syndromes[j] = syndromes[j] ^ change;
         j += 1;
     }
 }
