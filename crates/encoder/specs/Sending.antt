@@ -29,11 +29,15 @@ refusedOf s n = record { outcome = refused n; session = s }
 unfoldable pub historyNext : Session → ℕ → List ℕ
 historyNext s f = historyBy (s .history) (s .card .k) f
 
--- the frame for the information frame f, and the session after it, with n information frames taken and v tail frames out
+-- the frame for the information frame f
+unfoldable pub frameNext : Session → ℕ → ℕ
+frameNext s f = frameBy (s .card .generators) (historyNext s f) (s .card .k) (s .card .p) f
+
+-- that frame, and the session after it, with n information frames taken and v tail frames out
 unfoldable pub encodedOf : Session → ℕ → ℕ → ℕ → SendOutcome
 encodedOf s f n v =
     record {
-      outcome = frame (frameBy (s .card .generators) (historyNext s f) (s .card .k) (s .card .p) f);
+      outcome = frame (frameNext s f);
       session = record { card = s .card; history = historyNext s f; sent = n; tail = v };
     }
 

@@ -86,9 +86,9 @@ fn encode(s: Session, info: u8, sent: u32, tail: usize) -> Sent
     let generators = card.generators;
     let before = s.history;
     let history = code::history(&before, card.k, info as u32);
-    let frame = code::frame(&generators, &history, card.k, card.p, info as u32);
+    let frame = code::frame(&generators, &history, card.k, card.p, info as u32) as u8;
     Sent {
-        answer: Answer::Frame(frame as u8),
+        answer: Answer::Frame(frame),
         session: Session {
             card,
             history,
