@@ -23,13 +23,17 @@ use Rattle.code.specs.Guarantees.{Guarantees}
 use Rattle.code.specs.declared.Card.{Card}
 use Rattle.majority.specs.Rule.{cleared, decideFrame, decided, corrected}
 use Rattle.majority.specs.Voting.{decideBy}
-use Rattle.majority.proofs.Voting.{decide-lt-k, decide-is}
+use Rattle.majority.proofs.Voting.{decide-lt, decide-lt-k, decide-is}
 use Rattle.majority.proofs.Streams.{decided-length, decided-at}
 use Rattle.majority.proofs.Feedback.{cleared-fed}
-use Rattle.burst.specs.Registers.{Registers, registers, generatorSums, takenOut, Corrected}
+use Rattle.burst.specs.Registers.{Registers, registers, generatorSums, takenOut, Corrected, correctedBy}
 use Rattle.burst.specs.Held.{syndromeHeld, Before, With}
 use Rattle.burst.proofs.Coming.{generator-beyond}
 use Rattle.burst.proofs.Following.{sums-bit}
+
+-- four streams at most are decided
+pub decided-small : (counts checks syndromes : List ℕ) (k p : ℕ) {errors : ℕ} → errors ≡ decideBy counts checks syndromes k p → errors < 16
+decided-small counts checks syndromes k p e = rw e (decide-lt counts checks syndromes k p)
 
 module _ (c : Card) (G : Guarantees c) (frames : List ℕ) (t : ℕ) (r : Registers) (W : With c frames t r) (hm : c .m ≤ t) where
   -- place a has the syndrome of time t - m + a
@@ -118,8 +122,8 @@ module _ (c : Card) (G : Guarantees c) (frames : List ℕ) (t : ℕ) (r : Regist
 
     -- the frame handed out, whatever is decided later
     pub handed-out : (n : ℕ) → t - c .m < n
-        → bitXor (getD frames (t - c .m) 0 % 2 ^ c .k) errors ≡ corrected c frames (decided c frames n) (t - c .m)
-    unfolding corrected digit
+        → correctedBy (getD frames (t - c .m) 0) (c .k) errors ≡ corrected c frames (decided c frames n) (t - c .m)
+    unfolding correctedBy corrected digit
     handed-out n hn =
         let u = t - c .m in
         let f = getD frames u 0 in

@@ -1,21 +1,19 @@
 -- The loop that hands frames out, one turn of it, and its end: the frames handed out are the rule's.
-use Prim.Native.Nat.{ℕ, _+_, _-_, _%_, _^_, _≤_, _<_}
+use Prim.Native.Nat.{ℕ, _+_, _-_, _≤_, _<_}
 use mathlib.Core.Path.{_≡_, refl, sym, ap, _∙_}
 use mathlib.Core.Logic.{⊎-elim}
 use mathlib.Core.List.{List, _++_}
 use native.Mathlib.Numerals.{add-one}
 use native.Mathlib.Omega.{arith}
 use lib.ListN.{length, getD, set, drop, replicate}
-use lib.Bits.{bitXor}
 use Rattle.bits.specs.Sums.{upTo}
 use Rattle.bits.proofs.Lists.{part-at, part-length, part-step}
 use Rattle.majority.specs.Rule.{decided, corrected, decoded}
-use Rattle.burst.specs.Registers.{Registers, registers, generatorSums, written, TakenIn, takenOut, Corrected}
+use Rattle.burst.specs.Registers.{Registers, registers, generatorSums, written, TakenIn, takenOut, Corrected, correctedBy}
 use Rattle.burst.specs.Held.{With, Tables, cardWith, Carried, HandedOut, ReceivedBy}
-use Rattle.majority.proofs.Voting.{decide-lt}
 use Rattle.burst.proofs.Following.{taken-in}
 use Rattle.burst.proofs.Waiting.{start}
-use Rattle.burst.proofs.Deciding.{fed-back, handed-out}
+use Rattle.burst.proofs.Deciding.{decided-small, fed-back, handed-out}
 
 -- no register that was written has a 1
 pub none-written : {sums : List ℕ} {k p m f held : ℕ} {before after : Registers} → TakenIn sums k p m f before after held
@@ -30,7 +28,7 @@ module _ {sums counts checks syndromes after : List ℕ} {k p errors : ℕ} (C :
       (λ w. ap length w ∙ part-length (takenOut sums syndromes errors) syndromes p (omega arith) ∙ e) (C .after-is)
 
   pub errors-small : errors < 16
-  errors-small = rw (C .errors-are) (decide-lt counts checks syndromes k p)
+  errors-small = decided-small counts checks syndromes k p (C .errors-are)
 
 module _ (tables : Tables) (frames : List ℕ) where
   -- nothing is handed out before the frame of time m
@@ -47,7 +45,7 @@ module _ (tables : Tables) (frames : List ℕ) where
       → tables .m ≤ t → t < length frames → length frames ≤ length output₀ + tables .m
       → TakenIn (tables .sums) (tables .k) (tables .p) (tables .m) (getD frames t 0) now taken held
       → Corrected (tables .sums) (tables .counts) (tables .checks) (taken .syndromes) (tables .k) (tables .p) after errors
-      → v ≡ bitXor (getD frames (t - tables .m) 0 % 2 ^ tables .k) errors
+      → v ≡ correctedBy (getD frames (t - tables .m) 0) (tables .k) errors
       → HandedOut tables frames t before now output₀ output
       → HandedOut tables frames (t + 1) before (registers (taken .coming) after) output₀ (set output (t - tables .m) v)
   hand-more t v output₀ {now = now} {taken = taken} {output = output} {after = after} {errors = errors} hm ht ho T C q handed number g G e B =

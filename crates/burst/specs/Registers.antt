@@ -58,3 +58,7 @@ takenOut sums syndromes e j = bitXor (getD syndromes j 0) (getD sums (e * 8 + j)
 pub record Corrected (sums counts checks syndromes : List ℕ) (k p : ℕ) (after : List ℕ) (errors : ℕ) : Type 0 where
   pub errors-are : errors ≡ decideBy counts checks syndromes k p
   pub after-is : ((errors ≡ 0) × (after ≡ syndromes)) ⊎ (after ≡ written p (takenOut sums syndromes errors) syndromes)
+
+-- streams 1 to k of a frame, the errors e added
+unfoldable pub correctedBy : ℕ → ℕ → ℕ → ℕ
+correctedBy f k e = bitXor (f % 2 ^ k) e
