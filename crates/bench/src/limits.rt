@@ -5,10 +5,13 @@ use crate::bursts::Call;
 use crate::lines;
 use crate::tables;
 use crate::tables::Kind;
+use code::MOST_FRAMES;
 use encoder::Answer;
 use encoder::Session;
 ghost use mathlib.Core.Path.{_≡_};
+ghost use Prim.Native.Nat.{_+_};
 ghost use lib.ListN.{length};
+ghost use Rattle.code.specs.Code.{mostFrames};
 
 pub(crate) fn cases() {
     sending_sessions();
@@ -20,9 +23,9 @@ pub(crate) fn cases() {
 // A count of frames by the sign that a row has for it: as many as a stream may have, one fewer, or one more.
 pub(crate) fn count(sign: u8) -> usize {
     match sign {
-        b'-' => 1048575,
-        b'+' => 1048577,
-        _ => 1048576,
+        b'-' => MOST_FRAMES - 1,
+        b'+' => MOST_FRAMES + 1,
+        _ => MOST_FRAMES,
     }
 }
 
@@ -72,17 +75,17 @@ fn receiving_session() {
 }
 
 // Frames all alike, one more than a stream may have.
-fn too_many(frame: u8) -> [u8; 1048577]
-    ensures { λ r. ⌜ 1048577 ≡ length r ⌝ }
+fn too_many(frame: u8) -> [u8; MOST_FRAMES + 1]
+    ensures { λ r. ⌜ mostFrames + 1 ≡ length r ⌝ }
 {
-    [frame; 1048577]
+    [frame; MOST_FRAMES + 1]
 }
 
 // Room for as many frames as a stream may have.
-fn room(byte: u8) -> [u8; 1048576]
-    ensures { λ r. ⌜ 1048576 ≡ length r ⌝ }
+fn room(byte: u8) -> [u8; MOST_FRAMES]
+    ensures { λ r. ⌜ mostFrames ≡ length r ⌝ }
 {
-    [byte; 1048576]
+    [byte; MOST_FRAMES]
 }
 
 // What a row feeds is the letter of a card, the sign of a count, and the frame that is given so many times.

@@ -6,6 +6,7 @@ use crate::levels;
 use crate::lines;
 use crate::tables;
 use crate::tables::Kind;
+use code::MOST_FRAMES;
 use decoder::Answer;
 use decoder::Session;
 
@@ -92,7 +93,7 @@ fn step(s: Session, number: u8, fed: u8) -> Session {
         b' ' | b'0'..=b'9' => s,
         b'f' => figure(s),
         b'z' => receive_zeros(s, 30),
-        b'=' => receive_zeros(s, 1048576),
+        b'=' => receive_zeros(s, MOST_FRAMES as u32),
         b'h' | b'e' | b'n' => levels::receive(s, number, levels::lettered(fed, b'e', b'-')),
         _ => receive(s, number, fed),
     }

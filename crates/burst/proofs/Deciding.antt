@@ -23,17 +23,21 @@ use Rattle.code.specs.Guarantees.{Guarantees}
 use Rattle.code.specs.declared.Card.{Card}
 use Rattle.majority.specs.Rule.{cleared, decideFrame, decided, corrected}
 use Rattle.majority.specs.Voting.{decideBy}
-use Rattle.majority.proofs.Voting.{decide-lt-k, decide-is}
+use Rattle.majority.proofs.Voting.{decide-lt, decide-lt-k, decide-is}
 use Rattle.majority.proofs.Streams.{decided-length, decided-at}
 use Rattle.majority.proofs.Feedback.{cleared-fed}
-use Rattle.burst.specs.Registers.{generatorSums, takenOut, Corrected}
+use Rattle.burst.specs.Registers.{Registers, registers, generatorSums, takenOut, Corrected, correctedBy}
 use Rattle.burst.specs.Held.{syndromeHeld, Before, With}
 use Rattle.burst.proofs.Coming.{generator-beyond}
 use Rattle.burst.proofs.Following.{sums-bit}
 
-module _ (c : Card) (G : Guarantees c) (frames : List ℕ) (t : ℕ) (coming syndromes : List ℕ) (W : With c frames t coming syndromes) (hm : c .m ≤ t) where
+-- four streams at most are decided
+pub decided-small : (counts checks syndromes : List ℕ) (k p : ℕ) {errors : ℕ} → errors ≡ decideBy counts checks syndromes k p → errors < 16
+decided-small counts checks syndromes k p e = rw e (decide-lt counts checks syndromes k p)
+
+module _ (c : Card) (G : Guarantees c) (frames : List ℕ) (t : ℕ) (r : Registers) (W : With c frames t r) (hm : c .m ≤ t) where
   -- place a has the syndrome of time t - m + a
-  held-then : (j a : ℕ) → j < c .p → a ≤ c .m → bit (getD syndromes j 0) a ≡ cleared c frames (decided c frames (t - c .m)) (t - c .m + a) j
+  held-then : (j a : ℕ) → j < c .p → a ≤ c .m → bit (getD (r .syndromes) j 0) a ≡ cleared c frames (decided c frames (t - c .m)) (t - c .m + a) j
   unfolding syndromeHeld
   held-then j a hj ha =
       let errors = decided c frames (t - c .m) in
@@ -43,32 +47,32 @@ module _ (c : Card) (G : Guarantees c) (frames : List ℕ) (t : ℕ) (coming syn
       ∙ back-in (λ v. cleared c frames errors v j) t (c .m - a) (omega arith)
       ∙ ap (λ v. cleared c frames errors v j) z
 
-  held-beyond : (j a : ℕ) → j < c .p → c .m < a → bit (getD syndromes j 0) a ≡ 0
+  held-beyond : (j a : ℕ) → j < c .p → c .m < a → bit (getD (r .syndromes) j 0) a ≡ 0
   held-beyond j a hj ha = W .held-at j a hj ∙ ap (λ b. cond b (syndromeHeld c frames t j a) 0) (lt-leb a (c .m) ha)
 
   -- the registers decide as the rule does
-  decide-then : decideBy (c .counts) (c .checks) syndromes (c .k) (c .p) ≡ decideFrame c frames (decided c frames (t - c .m)) (t - c .m)
-  decide-then = decide-is c G frames (decided c frames (t - c .m)) (t - c .m) syndromes held-then held-beyond
+  decide-then : decideBy (c .counts) (c .checks) (r .syndromes) (c .k) (c .p) ≡ decideFrame c frames (decided c frames (t - c .m)) (t - c .m)
+  decide-then = decide-is c G frames (decided c frames (t - c .m)) (t - c .m) (r .syndromes) held-then held-beyond
 
-  module _ (after : List ℕ) (errors : ℕ) (C : Corrected (generatorSums (c .generators)) (c .counts) (c .checks) syndromes (c .k) (c .p) after errors) where
+  module _ (after : List ℕ) (errors : ℕ) (C : Corrected (generatorSums (c .generators)) (c .counts) (c .checks) (r .syndromes) (c .k) (c .p) after errors) where
     errors-lt : errors < 2 ^ c .k
-    errors-lt = rw (C .errors-are) (decide-lt-k (c .counts) (c .checks) syndromes (c .k) (c .p) (G .k-most))
+    errors-lt = rw (C .errors-are) (decide-lt-k (c .counts) (c .checks) (r .syndromes) (c .k) (c .p) (G .k-most))
 
     -- the generators of the streams in error are taken out, or there is nothing to take out
-    fed-bit : (j a : ℕ) → j < c .p → bit (getD after j 0) a ≡ (bit (getD syndromes j 0) a + sumBelow (c .k) (λ i. generator c i j a * bit errors i)) % 2
+    fed-bit : (j a : ℕ) → j < c .p → bit (getD after j 0) a ≡ (bit (getD (r .syndromes) j 0) a + sumBelow (c .k) (λ i. generator c i j a * bit errors i)) % 2
     unfolding takenOut
     fed-bit j a hj =
         ⊎-elim
-        (λ (w : (errors ≡ 0) × (after ≡ syndromes)).
+        (λ (w : (errors ≡ 0) × (after ≡ r .syndromes)).
         let z : sumBelow (c .k) (λ i. generator c i j a * bit errors i) ≡ 0 =
         sum-none (c .k) _ (λ i l. ap (λ e. generator c i j a * bit e i) (w .0) ∙ ap (λ x. generator c i j a * x) (bit-of-zero i) ∙ omega arith) in
-        ap (λ l. bit (getD l j 0) a) (w .1) ∙ omega (arith, bit-lt (getD syndromes j 0) a))
+        ap (λ l. bit (getD l j 0) a) (w .1) ∙ omega (arith, bit-lt (getD (r .syndromes) j 0) a))
         (λ w.
         ap (λ l. bit (getD l j 0) a) w
-        ∙ ap (λ x. bit x a) (part-at (takenOut (generatorSums (c .generators)) syndromes errors) syndromes (c .p) j hj)
-        ∙ bit-xor (getD syndromes j 0) (getD (generatorSums (c .generators)) (errors * 8 + j) 0) a
-        ∙ ap (λ x. (bit (getD syndromes j 0) a + x) % 2) (sums-bit c G errors j a errors-lt hj)
-        ∙ add-mod-mod (bit (getD syndromes j 0) a) _ 2)
+        ∙ ap (λ x. bit x a) (part-at (takenOut (generatorSums (c .generators)) (r .syndromes) errors) (r .syndromes) (c .p) j hj)
+        ∙ bit-xor (getD (r .syndromes) j 0) (getD (generatorSums (c .generators)) (errors * 8 + j) 0) a
+        ∙ ap (λ x. (bit (getD (r .syndromes) j 0) a + x) % 2) (sums-bit c G errors j a errors-lt hj)
+        ∙ add-mod-mod (bit (getD (r .syndromes) j 0) a) _ 2)
         (C .after-is)
 
     -- the errors are those of the rule
@@ -76,25 +80,25 @@ module _ (c : Card) (G : Guarantees c) (frames : List ℕ) (t : ℕ) (coming syn
     errors-is = C .errors-are ∙ decide-then
 
     fed-then : (j a : ℕ) → j < c .p → a < c .m
-        → (bit (getD syndromes j 0) (suc a) + sumBelow (c .k) (λ i. generator c i j (suc a) * bit errors i)) % 2 ≡ syndromeHeld c frames (suc t) j a
+        → (bit (getD (r .syndromes) j 0) (suc a) + sumBelow (c .k) (λ i. generator c i j (suc a) * bit errors i)) % 2 ≡ syndromeHeld c frames (suc t) j a
     unfolding decided syndromeHeld
     fed-then j a hj ha =
         let u = t - c .m in
         let before = decided c frames u in
         let v = u + suc a in
         let n = decided-length c frames u in
-        let r : suc a ≡ v - length before = omega arith in
+        let q : suc a ≡ v - length before = omega arith in
         let s : suc t - c .m ≡ suc u = omega arith in
         let w : suc t - (c .m - a) ≡ v = omega arith in
         ap (λ x. (x + sumBelow (c .k) (λ i. generator c i j (suc a) * bit errors i)) % 2) (held-then j (suc a) hj (omega arith))
-        ∙ ap (λ b. (cleared c frames before v j + sumBelow (c .k) (λ i. generator c i j b * bit errors i)) % 2) r
+        ∙ ap (λ b. (cleared c frames before v j + sumBelow (c .k) (λ i. generator c i j b * bit errors i)) % 2) q
         ∙ sym (cleared-fed before errors v (omega arith) c j (omega arith) frames)
         ∙ ap (λ e. cleared c frames (before ++ (e ∷ [])) v j) errors-is
         ∙ ap₂ (λ n v. cleared c frames (decided c frames n) v j) (sym s) (sym w)
         ∙ sym (back-in (λ v. cleared c frames (decided c frames (suc t - c .m)) v j) (suc t) (c .m - a) (omega arith))
 
     -- and the registers are ready for the next frame
-    pub fed-back : Before c frames (suc t) coming after
+    pub fed-back : Before c frames (suc t) (registers (r .coming) after)
     fed-back =
         record {
           coming-at = λ j a hj. W .coming-at j a hj;
@@ -118,8 +122,8 @@ module _ (c : Card) (G : Guarantees c) (frames : List ℕ) (t : ℕ) (coming syn
 
     -- the frame handed out, whatever is decided later
     pub handed-out : (n : ℕ) → t - c .m < n
-        → bitXor (getD frames (t - c .m) 0 % 2 ^ c .k) errors ≡ corrected c frames (decided c frames n) (t - c .m)
-    unfolding corrected digit
+        → correctedBy (getD frames (t - c .m) 0) (c .k) errors ≡ corrected c frames (decided c frames n) (t - c .m)
+    unfolding correctedBy corrected digit
     handed-out n hn =
         let u = t - c .m in
         let f = getD frames u 0 in

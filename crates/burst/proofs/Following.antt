@@ -25,7 +25,7 @@ use Rattle.code.specs.declared.Card.{Card}
 use Rattle.majority.specs.Rule.{syndrome, cleared, decided}
 use Rattle.majority.proofs.Streams.{decided-length}
 use Rattle.majority.proofs.Feedback.{syndrome-lt, cleared-lt, cleared-new}
-use Rattle.burst.specs.Registers.{generatorSum, generatorSums, parityWith, comingNext, syndromesNext, TakenIn}
+use Rattle.burst.specs.Registers.{Registers, generatorSum, generatorSums, parityWith, comingNext, syndromesNext, TakenIn}
 use Rattle.burst.specs.Held.{comingAt, syndromeHeld, Before, With}
 use Rattle.burst.proofs.Coming.{comingWith, coming-with, coming-now, coming-later}
 
@@ -68,13 +68,12 @@ only-first e q h = omega arith
 only-second : {x y v : ℕ} → x ≡ 0 → y ≡ v → v < 2 → (x + y) % 2 ≡ v
 only-second e q h = omega arith
 
-module _ (c : Card) (G : Guarantees c) (frames : List ℕ) (t f : ℕ) (hf : f ≡ getD frames t 0) (coming syndromes : List ℕ)
-    (B : Before c frames t coming syndromes) where
+module _ (c : Card) (G : Guarantees c) (frames : List ℕ) (t f : ℕ) (hf : f ≡ getD frames t 0) (r : Registers) (B : Before c frames t r) where
   -- the parity register j with the frame
-  parity-bit : (j a : ℕ) → j < c .p → bit (parityWith (generatorSums (c .generators)) coming (c .k) f j) a ≡ comingWith c frames t j a
+  parity-bit : (j a : ℕ) → j < c .p → bit (parityWith (generatorSums (c .generators)) (r .coming) (c .k) f j) a ≡ comingWith c frames t j a
   unfolding parityWith digit
   parity-bit j a hj =
-      bit-xor (getD coming j 0) (getD (generatorSums (c .generators)) (f % 2 ^ c .k * 8 + j) 0) a
+      bit-xor (getD (r .coming) j 0) (getD (generatorSums (c .generators)) (f % 2 ^ c .k * 8 + j) 0) a
       ∙ ap₂ (λ x y. (x + y) % 2) (B .coming-at j a hj)
       (sums-bit c G (f % 2 ^ c .k) j a (mod-lt f (pow-pos (c .k))) hj
       ∙ ap (λ y. y % 2)
@@ -82,13 +81,13 @@ module _ (c : Card) (G : Guarantees c) (frames : List ℕ) (t f : ℕ) (hf : f �
       ∙ add-mod-mod _ _ 2
       ∙ coming-with c G frames t j a
 
-  coming-bit : (j a : ℕ) → j < c .p → bit (comingNext (generatorSums (c .generators)) coming (c .k) f j) a ≡ comingAt c frames (suc t) j a
+  coming-bit : (j a : ℕ) → j < c .p → bit (comingNext (generatorSums (c .generators)) (r .coming) (c .k) f j) a ≡ comingAt c frames (suc t) j a
   unfolding comingNext
   coming-bit j a hj = sym (bit-suc _ a) ∙ parity-bit j (suc a) hj ∙ coming-later c frames t j a
 
   -- the syndrome of the frame
   syndrome-is : (j : ℕ) → j < c .p
-      → bitXor (parityWith (generatorSums (c .generators)) coming (c .k) f j) (f / 2 ^ c .k / 2 ^ j) % 2 ≡ syndrome c frames t j
+      → bitXor (parityWith (generatorSums (c .generators)) (r .coming) (c .k) f j) (f / 2 ^ c .k / 2 ^ j) % 2 ≡ syndrome c frames t j
   unfolding syndrome digit
   syndrome-is j hj =
       let z : c .k + (j + 0) ≡ c .k + j = omega arith in
@@ -99,10 +98,10 @@ module _ (c : Card) (G : Guarantees c) (frames : List ℕ) (t f : ℕ) (hf : f �
       ∙ ap (λ x. x % 2) (add-comm (parityAt c frames j t) _)
 
   held-bit : (j a : ℕ) → j < c .p
-      → bit (syndromesNext (generatorSums (c .generators)) coming syndromes (c .k) (c .m) f j) a ≡ cond (leb a (c .m)) (syndromeHeld c frames t j a) 0
+      → bit (syndromesNext (generatorSums (c .generators)) (r .coming) (r .syndromes) (c .k) (c .m) f j) a ≡ cond (leb a (c .m)) (syndromeHeld c frames t j a) 0
   unfolding syndromesNext
   held-bit j a hj =
-      let y = getD syndromes j 0 in
+      let y = getD (r .syndromes) j 0 in
       let d = syndrome c frames t j in
       let hd = syndrome-lt c frames t j in
       ap (λ x. bit (bitXor (y / 2) (shiftUp x (c .m))) a) (syndrome-is j hj)
@@ -126,10 +125,9 @@ module _ (c : Card) (G : Guarantees c) (frames : List ℕ) (t f : ℕ) (hf : f �
       (le-or-lt a (c .m))
 
   -- the registers after the frame
-  pub taken-in : {coming' syndromes' : List ℕ} {held : ℕ}
-      → TakenIn (generatorSums (c .generators)) coming syndromes (c .k) (c .p) (c .m) f coming' syndromes' held → With c frames t coming' syndromes'
+  pub taken-in : {after : Registers} {held : ℕ} → TakenIn (generatorSums (c .generators)) (c .k) (c .p) (c .m) f r after held → With c frames t after
   taken-in T =
       record {
-        coming-at = λ j a hj. ap (λ l. bit (getD l j 0) a) (T .coming-is) ∙ ap (λ x. bit x a) (part-at _ coming (c .p) j hj) ∙ coming-bit j a hj;
-        held-at = λ j a hj. ap (λ l. bit (getD l j 0) a) (T .syndromes-is) ∙ ap (λ x. bit x a) (part-at _ syndromes (c .p) j hj) ∙ held-bit j a hj;
+        coming-at = λ j a hj. ap (λ l. bit (getD l j 0) a) (T .coming-is) ∙ ap (λ x. bit x a) (part-at _ (r .coming) (c .p) j hj) ∙ coming-bit j a hj;
+        held-at = λ j a hj. ap (λ l. bit (getD l j 0) a) (T .syndromes-is) ∙ ap (λ x. bit x a) (part-at _ (r .syndromes) (c .p) j hj) ∙ held-bit j a hj;
       }

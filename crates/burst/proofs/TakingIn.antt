@@ -11,7 +11,7 @@ use lib.Bits.{bitOr, bitXor, and-le-l, and-le-r, or-add-and}
 use Rattle.bits.specs.Digits.{shiftUp}
 use Rattle.bits.proofs.Cases.{last-or-below}
 use Rattle.bits.proofs.Lists.{part-step, part-end, part-rest}
-use Rattle.burst.specs.Registers.{parityWith, comingNext, syndromesNext, written, TakenIn}
+use Rattle.burst.specs.Registers.{registers, parityWith, comingNext, syndromesNext, written, TakenIn}
 
 module _ (sums coming₀ : List ℕ) (k f j : ℕ) where
   parity-is : {coming : List ℕ} {x : ℕ} → coming ≡ written j (comingNext sums coming₀ k f) coming₀ → x ≡ f % 2 ^ k
@@ -68,7 +68,8 @@ taking-more {sums} {coming₀} {syndromes₀} {k} {p} {m} {f} {syndromes} {comin
 
 -- the frame is taken in
 pub taken-whole : {sums coming₀ syndromes₀ : List ℕ} {k p m f : ℕ} {syndromes coming : List ℕ} {held j : ℕ}
-    → TakingIn sums coming₀ syndromes₀ k p m f syndromes coming held j → p ≤ j → TakenIn sums coming₀ syndromes₀ k p m f coming syndromes held
+    → TakingIn sums coming₀ syndromes₀ k p m f syndromes coming held j → p ≤ j
+    → TakenIn sums k p m f (registers coming₀ syndromes₀) (registers coming syndromes) held
 taken-whole {coming₀ = coming₀} {syndromes₀ = syndromes₀} v l =
     record {
       coming-is = v .coming-is ∙ part-end _ coming₀ (v .most) l;

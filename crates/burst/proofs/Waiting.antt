@@ -16,8 +16,8 @@ use Rattle.bits.proofs.Cases.{le-or-lt}
 use Rattle.bits.proofs.Digits.{bit-of-zero}
 use Rattle.code.specs.declared.Card.{Card}
 use Rattle.majority.specs.Rule.{cleared, decided}
-use Rattle.burst.specs.Registers.{comingNext, syndromesNext, TakenIn}
-use Rattle.burst.specs.Held.{syndromeHeld, Before, With, cardWith, Carried}
+use Rattle.burst.specs.Registers.{Registers, registers, comingNext, syndromesNext, TakenIn}
+use Rattle.burst.specs.Held.{syndromeHeld, Before, With, Tables, cardWith, Carried}
 use Rattle.burst.proofs.Coming.{coming-start}
 use Rattle.burst.proofs.Following.{taken-in}
 
@@ -35,7 +35,7 @@ later c frames t j a h l =
     sym (back-suc (λ v. cleared c frames (decided c frames (t - c .m)) v j) t (c .m - suc a))
     ∙ ap₂ (λ n b. back (λ v. cleared c frames (decided c frames n) v j) (suc t) b) e q
 
-pub start : (c : Card) (frames : List ℕ) → Before c frames 0 (replicate 8 0) (replicate 8 0)
+pub start : (c : Card) (frames : List ℕ) → Before c frames 0 (registers (replicate 8 0) (replicate 8 0))
 start c frames =
     record {
       coming-at = λ j a hj. none j a ∙ sym (coming-start c frames j a);
@@ -48,7 +48,7 @@ start c frames =
     none : (j a : ℕ) → bit (getD (replicate 8 0) j 0) a ≡ 0
     none j a = ap (λ x. bit x a) (zeros-at 8 j) ∙ bit-of-zero a
 
-pub waiting : (c : Card) (frames : List ℕ) (t : ℕ) {coming syndromes : List ℕ} → t < c .m → With c frames t coming syndromes → Before c frames (suc t) coming syndromes
+pub waiting : (c : Card) (frames : List ℕ) (t : ℕ) {r : Registers} → t < c .m → With c frames t r → Before c frames (suc t) r
 waiting c frames t h W =
     record {
       coming-at = λ j a hj. W .coming-at j a hj;
@@ -66,19 +66,18 @@ waiting c frames t h W =
     }
 
 -- ---- frames taken in one after the other
-module _ {sums coming syndromes coming' syndromes' : List ℕ} {k p m f held : ℕ} (T : TakenIn sums coming syndromes k p m f coming' syndromes' held)
-    (hp : p ≤ 8) where
-  pub coming-length : length coming ≡ 8 → length coming' ≡ 8
-  coming-length e = ap length (T .coming-is) ∙ part-length (comingNext sums coming k f) coming p (omega arith) ∙ e
+module _ {sums : List ℕ} {k p m f held : ℕ} {before after : Registers} (T : TakenIn sums k p m f before after held) (hp : p ≤ 8) where
+  pub coming-length : length (before .coming) ≡ 8 → length (after .coming) ≡ 8
+  coming-length e = ap length (T .coming-is) ∙ part-length (comingNext sums (before .coming) k f) (before .coming) p (omega arith) ∙ e
 
-  pub syndromes-length : length syndromes ≡ 8 → length syndromes' ≡ 8
-  syndromes-length e = ap length (T .syndromes-is) ∙ part-length (syndromesNext sums coming syndromes k m f) syndromes p (omega arith) ∙ e
+  pub syndromes-length : length (before .syndromes) ≡ 8 → length (after .syndromes) ≡ 8
+  syndromes-length e =
+      ap length (T .syndromes-is) ∙ part-length (syndromesNext sums (before .coming) (before .syndromes) k m f) (before .syndromes) p (omega arith) ∙ e
 
 -- one frame more for which nothing is handed out
-pub wait-more : (frames : List ℕ) (s t : ℕ) {sums coming₀ syndromes₀ coming syndromes coming' syndromes' : List ℕ} {k p m held : ℕ} → t < m
-    → TakenIn sums coming syndromes k p m (getD frames t 0) coming' syndromes' held
-    → Carried sums k p m frames s t coming₀ syndromes₀ coming syndromes
-    → Carried sums k p m frames s (t + 1) coming₀ syndromes₀ coming' syndromes'
-wait-more frames s t {coming = coming} {syndromes = syndromes} {k = k} {p = p} {m = m} h T carried number g n checks G e B =
-    let c = cardWith number k p m g n checks in
-    rw add-one (waiting c frames t h (taken-in c G frames t (getD frames t 0) refl coming syndromes (carried number g n checks G e B) (rw e at T)))
+pub wait-more : (tables : Tables) (frames : List ℕ) (t : ℕ) {before now after : Registers} {held : ℕ} → t < tables .m
+    → TakenIn (tables .sums) (tables .k) (tables .p) (tables .m) (getD frames t 0) now after held
+    → Carried tables frames t before now → Carried tables frames (t + 1) before after
+wait-more tables frames t {now = now} h T carried number g G e B =
+    let c = cardWith number g tables in
+    rw add-one (waiting c frames t h (taken-in c G frames t (getD frames t 0) refl now (carried number g G e B) (rw e at T)))

@@ -13,7 +13,7 @@ use Rattle.code.specs.Code.{generator, digit}
 use Rattle.code.specs.Guarantees.{Guarantees}
 use Rattle.code.specs.declared.Card.{Card}
 use Rattle.majority.specs.Rule.{cleared, decided, corrected, decoded}
-use Rattle.burst.specs.Registers.{generatorSums, written}
+use Rattle.burst.specs.Registers.{Registers, generatorSums, written}
 
 -- the part of parity digit j at t + a that the information digits of times before t give
 unfoldable pub comingAt : Card → List ℕ → ℕ → ℕ → ℕ → ℕ
@@ -24,39 +24,50 @@ unfoldable pub syndromeHeld : Card → List ℕ → ℕ → ℕ → ℕ → ℕ
 syndromeHeld c frames t j a = back (λ v. cleared c frames (decided c frames (t - c .m)) v j) t (c .m - a)
 
 -- the registers before the frame of time t: syndromes at places 1 to m, that of time t - 1 at m
-pub record Before (c : Card) (frames : List ℕ) (t : ℕ) (coming syndromes : List ℕ) : Type 0 where
-  pub coming-at : (j a : ℕ) → j < c .p → bit (getD coming j 0) a ≡ comingAt c frames t j a
-  pub held-at : (j a : ℕ) → j < c .p → bit (getD syndromes j 0) (suc a) ≡ cond (ltb a (c .m)) (syndromeHeld c frames t j a) 0
+pub record Before (c : Card) (frames : List ℕ) (t : ℕ) (r : Registers) : Type 0 where
+  pub coming-at : (j a : ℕ) → j < c .p → bit (getD (r .coming) j 0) a ≡ comingAt c frames t j a
+  pub held-at : (j a : ℕ) → j < c .p → bit (getD (r .syndromes) j 0) (suc a) ≡ cond (ltb a (c .m)) (syndromeHeld c frames t j a) 0
 
 -- the registers with the frame of time t: syndromes at places 0 to m, that of time t at m
-pub record With (c : Card) (frames : List ℕ) (t : ℕ) (coming syndromes : List ℕ) : Type 0 where
-  pub coming-at : (j a : ℕ) → j < c .p → bit (getD coming j 0) a ≡ comingAt c frames (suc t) j a
-  pub held-at : (j a : ℕ) → j < c .p → bit (getD syndromes j 0) a ≡ cond (leb a (c .m)) (syndromeHeld c frames t j a) 0
+pub record With (c : Card) (frames : List ℕ) (t : ℕ) (r : Registers) : Type 0 where
+  pub coming-at : (j a : ℕ) → j < c .p → bit (getD (r .coming) j 0) a ≡ comingAt c frames (suc t) j a
+  pub held-at : (j a : ℕ) → j < c .p → bit (getD (r .syndromes) j 0) a ≡ cond (leb a (c .m)) (syndromeHeld c frames t j a) 0
 
--- the card with these tables
-abbrev pub cardWith : ℕ → ℕ → ℕ → ℕ → List ℕ → List ℕ → List ℕ → Card
-cardWith number k p m generators counts checks =
-    record { number = number; k = k; p = p; m = m; generators = generators; counts = counts; checks = checks }
+-- ---- what the loops promise, for every card with the tables that they are given
 
--- for every card with these tables: registers that were ready for the frame of time s are ready for that of time t now
-abbrev pub Carried : List ℕ → ℕ → ℕ → ℕ → List ℕ → ℕ → ℕ → List ℕ → List ℕ → List ℕ → List ℕ → Type 0
-Carried sums k p m frames s t coming₀ syndromes₀ coming syndromes =
-    (number : ℕ) (generators counts checks : List ℕ) →
-    let c = cardWith number k p m generators counts checks in
-    Guarantees c → sums ≡ generatorSums generators → Before c frames s coming₀ syndromes₀ → Before c frames t coming syndromes
+-- what the loops have of a card: the sums of its generators in place of these
+pub record Tables : Type 0 where
+  pub sums : List ℕ
+  pub counts : List ℕ
+  pub checks : List ℕ
+  pub k : ℕ
+  pub p : ℕ
+  pub m : ℕ
 
--- for every card with these tables: registers that were ready for the frame of time m are ready for that of time t now, and the frames m before
--- those since then are handed out
-abbrev pub HandedOut : List ℕ → List ℕ → List ℕ → ℕ → ℕ → ℕ → List ℕ → ℕ → List ℕ → List ℕ → List ℕ → List ℕ → List ℕ → List ℕ → Type 0
-HandedOut sums counts checks k p m frames t coming₀ syndromes₀ output₀ coming syndromes output =
-    (number : ℕ) (generators : List ℕ) →
-    let c = cardWith number k p m generators counts checks in
-    Guarantees c → sums ≡ generatorSums generators → Before c frames m coming₀ syndromes₀
-    → Before c frames t coming syndromes × (output ≡ written (t - m) (corrected c frames (decided c frames (length frames - m))) output₀)
+abbrev pub tables : List ℕ → List ℕ → List ℕ → ℕ → ℕ → ℕ → Tables
+tables sums counts checks k p m = record { sums = sums; counts = counts; checks = checks; k = k; p = p; m = m }
 
--- for every card with these tables: the frames that the rule hands out stand at the front of the output, and the rest of it is as it was
-abbrev pub ReceivedBy : List ℕ → List ℕ → List ℕ → ℕ → ℕ → ℕ → List ℕ → List ℕ → List ℕ → Type 0
-ReceivedBy generators counts checks k p m frames output₀ output =
-    (number : ℕ) →
-    let c = cardWith number k p m generators counts checks in
-    Guarantees c → output ≡ decoded c frames ++ drop (length frames - m) output₀
+-- the card of this number with these generators and tables
+abbrev pub cardWith : ℕ → List ℕ → Tables → Card
+cardWith number generators T =
+    record { number = number; k = T .k; p = T .p; m = T .m; generators = generators; counts = T .counts; checks = T .checks }
+
+-- every accepted card with these tables has the property
+abbrev pub EveryCard : Tables → (Card → Type 0) → Type 0
+EveryCard T P = (number : ℕ) (generators : List ℕ) → Guarantees (cardWith number generators T) → T .sums ≡ generatorSums generators → P (cardWith number generators T)
+
+-- registers that were ready for the frame of time 0 are ready for that of time t now
+abbrev pub Carried : Tables → List ℕ → ℕ → Registers → Registers → Type 0
+Carried T frames t before after = EveryCard T (λ c. Before c frames 0 before → Before c frames t after)
+
+-- registers that were ready for the frame of time m are ready for that of time t now, and the frames m before those since then are handed out
+abbrev pub HandedOut : Tables → List ℕ → ℕ → Registers → Registers → List ℕ → List ℕ → Type 0
+HandedOut T frames t before after output₀ output =
+    EveryCard T
+    (λ c.
+    Before c frames (c .m) before
+    → Before c frames t after × (output ≡ written (t - c .m) (corrected c frames (decided c frames (length frames - c .m))) output₀))
+
+-- the frames that the rule hands out stand at the front of the output, and the rest of it is as it was
+abbrev pub ReceivedBy : Tables → List ℕ → List ℕ → List ℕ → Type 0
+ReceivedBy T frames output₀ output = EveryCard T (λ c. output ≡ decoded c frames ++ drop (length frames - c .m) output₀)

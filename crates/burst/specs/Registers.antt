@@ -11,6 +11,14 @@ use Rattle.bits.specs.Sums.{xorBelow, upTo}
 use Rattle.bits.specs.Digits.{bit, shiftUp}
 use Rattle.majority.specs.Voting.{decideBy}
 
+-- the registers of the parity streams: the parity digits to come, and the syndromes held
+pub record Registers : Type 0 where
+  pub coming : List ℕ
+  pub syndromes : List ℕ
+
+abbrev pub registers : List ℕ → List ℕ → Registers
+registers coming syndromes = record { coming = coming; syndromes = syndromes }
+
 -- the exclusive or of the generators, on parity stream j, of the information streams in x
 unfoldable pub generatorSum : List ℕ → ℕ → ℕ → ℕ
 generatorSum g x j = xorBelow 4 (λ i. getD g (i * 8 + j) 0 * bit x i)
@@ -37,10 +45,10 @@ abbrev pub written : ℕ → (ℕ → ℕ) → List ℕ → List ℕ
 written p f l = upTo p f ++ drop p l
 
 -- what the registers of p parity streams are after frame f, and that what is handed back is zero only if all of them are
-pub record TakenIn (sums coming syndromes : List ℕ) (k p m f : ℕ) (comingAfter syndromesAfter : List ℕ) (held : ℕ) : Type 0 where
-  pub coming-is : comingAfter ≡ written p (comingNext sums coming k f) coming
-  pub syndromes-is : syndromesAfter ≡ written p (syndromesNext sums coming syndromes k m f) syndromes
-  pub none-held : held ≡ 0 → (j : ℕ) → j < p → syndromesNext sums coming syndromes k m f j ≡ 0
+pub record TakenIn (sums : List ℕ) (k p m f : ℕ) (before after : Registers) (held : ℕ) : Type 0 where
+  pub coming-is : after .coming ≡ written p (comingNext sums (before .coming) k f) (before .coming)
+  pub syndromes-is : after .syndromes ≡ written p (syndromesNext sums (before .coming) (before .syndromes) k m f) (before .syndromes)
+  pub none-held : held ≡ 0 → (j : ℕ) → j < p → syndromesNext sums (before .coming) (before .syndromes) k m f j ≡ 0
 
 -- syndrome register j with the errors e taken out
 unfoldable pub takenOut : List ℕ → List ℕ → ℕ → ℕ → ℕ
@@ -50,3 +58,7 @@ takenOut sums syndromes e j = bitXor (getD syndromes j 0) (getD sums (e * 8 + j)
 pub record Corrected (sums counts checks syndromes : List ℕ) (k p : ℕ) (after : List ℕ) (errors : ℕ) : Type 0 where
   pub errors-are : errors ≡ decideBy counts checks syndromes k p
   pub after-is : ((errors ≡ 0) × (after ≡ syndromes)) ⊎ (after ≡ written p (takenOut sums syndromes errors) syndromes)
+
+-- streams 1 to k of a frame, the errors e added
+unfoldable pub correctedBy : ℕ → ℕ → ℕ → ℕ
+correctedBy f k e = bitXor (f % 2 ^ k) e

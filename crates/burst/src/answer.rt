@@ -3,6 +3,7 @@ ghost use mathlib.Core.Path.{_≡_};
 ghost use Prim.Native.Nat.{_≤_};
 ghost use lib.IntN.{pos, negℤ};
 ghost use Rattle.card.specs.Refusals.{numberOf};
+ghost use Rattle.code.specs.Code.{mostFrames};
 use card::Refusal;
 
 pub(crate) fn refused(refusal: Refusal) -> i32
@@ -12,7 +13,7 @@ pub(crate) fn refused(refusal: Refusal) -> i32
 }
 
 pub(crate) fn frames(count: usize) -> i32
-    requires { ⌜ count ≤ 1048576 ⌝ }
+    requires { ⌜ count ≤ mostFrames ⌝ }
     ensures { λ r. ⌜ r ≡ pos count ⌝ }
 {
     count as i32

@@ -1,13 +1,15 @@
 // Receiving a whole burst: the frames of all streams in, the corrected information frames out. Each frame that is handed out is read again from
 // the input.
 ghost use mathlib.Core.Path.{_≡_};
-ghost use Prim.Native.Nat.{_+_, _-_, _≤_};
+ghost use mathlib.Core.List.{List};
+ghost use Prim.Native.Nat.{ℕ, _+_, _-_, _≤_};
 ghost use lib.ListN.{length};
 ghost use Rattle.code.specs.Guarantees.{Guarantees};
 ghost use Rattle.outcomes.specs.Outcome.{outcome};
 ghost use Rattle.outcomes.specs.Receiving.{receiveUnder, receiveOf};
 ghost use Rattle.outcomes.specs.Claims.{ComesOutAsSent};
-ghost use Rattle.burst.specs.Held.{Carried, HandedOut, ReceivedBy};
+ghost use Rattle.burst.specs.Registers.{registers, generatorSums};
+ghost use Rattle.burst.specs.Held.{tables, Carried, HandedOut, ReceivedBy};
 use crate::answer::frames;
 use crate::answer::refused;
 use crate::registers::correct;
@@ -17,6 +19,7 @@ use crate::registers::take_in;
 use card::Refusal;
 use card::Verdict;
 use code::Card;
+use code::MOST_FRAMES;
 
 // The first m frames, for which nothing is handed out.
 fn fill(
@@ -31,7 +34,8 @@ fn fill(
     requires { ⌜ (k ≤ 4) × (k + p ≤ 8) × (m ≤ 31) × (m ≤ length (now input)) ⌝ }
     requires { ⌜ (length (now syndromes) ≡ 8) × (length (now coming) ≡ 8) ⌝ }
     ensures { λ r. ⌜ (length (now (syndromes .exit)) ≡ 8) × (length (now (coming .exit)) ≡ 8) ⌝ }
-    ensures { λ r. ⌜ Carried (now (sums .entry)) k p m (now (input .entry)) 0 m (now (coming .entry)) (now (syndromes .entry)) (now (coming .exit)) (now (syndromes .exit)) ⌝ }
+    ensures { λ r. ⌜ ((counts checks : List ℕ) → Carried (tables (now (sums .entry)) counts checks k p m) (now (input .entry)) m
+        (registers (now (coming .entry)) (now (syndromes .entry))) (registers (now (coming .exit)) (now (syndromes .exit)))) ⌝ }
 {
     let mut t = 0;
     while t < m {
@@ -56,7 +60,9 @@ fn hand_out<'a>(
     requires { ⌜ (k ≤ 4) × (k + p ≤ 8) × (m ≤ 31) ⌝ }
     requires { ⌜ (length (now syndromes) ≡ 8) × (length (now coming) ≡ 8) ⌝ }
     requires { ⌜ (m ≤ length (now input)) × (length (now input) ≤ length (now output) + m) ⌝ }
-    ensures { λ r. ⌜ HandedOut (now (sums .entry)) (now (counts .entry)) (now (checks .entry)) k p m (now (input .entry)) (length (now (input .entry))) (now (coming .entry)) (now (syndromes .entry)) (now (output .entry)) (now (coming .exit)) (now (syndromes .exit)) (now (output .exit)) ⌝ }
+    ensures { λ r. ⌜ HandedOut (tables (now (sums .entry)) (now (counts .entry)) (now (checks .entry)) k p m) (now (input .entry)) (length (now (input .entry)))
+        (registers (now (coming .entry)) (now (syndromes .entry))) (registers (now (coming .exit)) (now (syndromes .exit)))
+        (now (output .entry)) (now (output .exit)) ⌝ }
 {
     let mut t = m;
     while t < input.len() {
@@ -81,7 +87,8 @@ fn receive_frames<'a>(
 )
     requires { ⌜ (k ≤ 4) × (k + p ≤ 8) × (m ≤ 31) ⌝ }
     requires { ⌜ length (now input) ≤ length (now output) + m ⌝ }
-    ensures { λ r. ⌜ ReceivedBy (now (generators .entry)) (now (counts .entry)) (now (checks .entry)) k p m (now (input .entry)) (now (output .entry)) (now (output .exit)) ⌝ }
+    ensures { λ r. ⌜ ReceivedBy (tables (generatorSums (now (generators .entry))) (now (counts .entry)) (now (checks .entry)) k p m)
+        (now (input .entry)) (now (output .entry)) (now (output .exit)) ⌝ }
 {
     if input.len() < m {
         return;
@@ -116,7 +123,7 @@ fn receive_under(card: Card, input: &[u8], output: &mut [u8]) -> i32
     requires { ⌜ Guarantees card ⌝ }
     ensures { λ r. ⌜ outcome r (now (output .exit)) ≡ receiveUnder card (now (input .entry)) (now (output .entry)) ⌝ }
 {
-    if 1048576 < input.len() {
+    if MOST_FRAMES < input.len() {
         return refused(Refusal::TooManyFrames);
     }
     let k = card.k;

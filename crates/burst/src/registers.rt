@@ -2,13 +2,11 @@
 // be. With a frame taken in, bit a of syndrome register j is the syndrome of the frame m - a before it, the decided errors taken out, and bit a
 // of coming register j is the part that the digits so far have in the parity digit of the frame a + 1 after it.
 ghost use mathlib.Core.Path.{_≡_};
-ghost use mathlib.Core.Bool.{cond};
-ghost use Prim.Native.Nat.{ℕ, _+_, _*_, _/_, _%_, _^_, _<_, _≤_};
+ghost use Prim.Native.Nat.{ℕ, _+_, _/_, _%_, _^_, _<_, _≤_};
 ghost use lib.ListN.{getD, length};
-ghost use lib.Bits.{bitAnd, bitXor};
-ghost use lib.Dec.{ltb};
+ghost use lib.Bits.{bitXor};
 ghost use Rattle.bits.specs.Digits.{shiftUp};
-ghost use Rattle.burst.specs.Registers.{generatorSum, generatorSums, TakenIn, written, takenOut, Corrected};
+ghost use Rattle.burst.specs.Registers.{registers, generatorSum, generatorSums, TakenIn, written, takenOut, Corrected, correctedBy};
 
 // Streams 1 to k of a frame.
 fn information(frame: u8, k: usize) -> u32
@@ -65,7 +63,7 @@ pub(crate) fn take_in(
 ) -> u32
     requires { ⌜ (k ≤ 4) × (k + p ≤ 8) × (m ≤ 31) ⌝ }
     requires { ⌜ (length (now syndromes) ≡ 8) × (length (now coming) ≡ 8) ⌝ }
-    ensures { λ r. ⌜ TakenIn (now (sums .entry)) (now (coming .entry)) (now (syndromes .entry)) k p m frame (now (coming .exit)) (now (syndromes .exit)) r ⌝ }
+    ensures { λ r. ⌜ TakenIn (now (sums .entry)) k p m frame (registers (now (coming .entry)) (now (syndromes .entry))) (registers (now (coming .exit)) (now (syndromes .exit))) r ⌝ }
 {
     let at = bits::index(information(frame, k)) * 8;
     let parities = bits::wide(frame) >> k;
@@ -90,7 +88,8 @@ fn take_out(syndromes: &mut [u32; 8], sums: &[u32; 128], p: usize, errors: u32)
     let at = bits::index(errors) * 8;
     let mut j = 0;
     while j < p {
-        syndromes[j] = syndromes[j] ^ sums[at + j];
+        let change = sums[at + j];
+        syndromes[j] = syndromes[j] ^ change;
         j += 1;
     }
 }
@@ -122,7 +121,7 @@ pub(crate) fn correct<'a>(
 // A frame's information with the decided errors added.
 pub(crate) fn corrected(frame: u8, k: usize, errors: u32) -> u8
     requires { ⌜ (k ≤ 4) × (errors < 16) ⌝ }
-    ensures { λ r. ⌜ r ≡ bitXor (frame % 2 ^ k) errors ⌝ }
+    ensures { λ r. ⌜ r ≡ correctedBy frame k errors ⌝ }
 {
     (information(frame, k) ^ errors) as u8
 }

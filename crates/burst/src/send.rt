@@ -14,6 +14,7 @@ use crate::answer::refused;
 use card::Refusal;
 use card::Verdict;
 use code::Card;
+use code::MOST_FRAMES;
 
 // The information frame of time `at`, zero after the last one: the tail's.
 fn information(input: &[u8], at: usize) -> u32
@@ -56,7 +57,7 @@ fn send_under(card: Card, input: &[u8], output: &mut [u8]) -> i32
 {
     let m = card.m;
     let count = input.len() + m;
-    if 1048576 < count {
+    if MOST_FRAMES < count {
         return refused(Refusal::TooManyFrames);
     }
     if output.len() < count {

@@ -7,9 +7,8 @@ use mathlib.Core.List.{List, [], _∷_, _++_}
 use native.Mathlib.Nat.{zero-add}
 use native.Mathlib.Omega.{arith}
 use borrow.Author.Tests.{lt-ltb, ltb-false}
-use Rattle.code.specs.Registers.{frameBy}
 use Rattle.encoder.specs.Outcome.{SendOutcome}
-use Rattle.encoder.specs.Sending.{refusedOf, historyNext, encodedOf, tailBegun, noRoom, digitBeyond, tailOut, sendOf}
+use Rattle.encoder.specs.Sending.{refusedOf, frameNext, encodedOf, tailBegun, noRoom, digitBeyond, tailOut, sendOf}
 use Rattle.encoder.specs.Calls.{Call, information, tail, callOf, givenBy, framesGiven, takes, informationTaken, tailTaken}
 use Rattle.encoder.specs.declared.Session.{Session}
 use Rattle.encoder.proofs.Outcomes.{send-begun, send-full, send-beyond, send-taken, tail-out, tail-taken}
@@ -72,12 +71,8 @@ pub record Step (s s′ : Session) (call : Call) (calls : List Call) (frames inf
   pub information-is : informationTaken s (call ∷ calls) ≡ information ++ informationTaken s′ calls
   pub tails-are : tailTaken s (call ∷ calls) ≡ tails + tailTaken s′ calls
 
--- the frame of the registers once the information frame f is in
-abbrev pub frameFor : Session → ℕ → ℕ
-frameFor s f = frameBy (s .card .generators) (historyNext s f) (s .card .k) (s .card .p) f
-
 module _ (s : Session) (calls : List Call) where
-  pub information-taken : (f : ℕ) → Taken s f → Step s (encodedOf s f (s .sent + 1) (s .tail) .session) (information f) calls (frameFor s f ∷ []) (f ∷ []) 0
+  pub information-taken : (f : ℕ) → Taken s f → Step s (encodedOf s f (s .sent + 1) (s .tail) .session) (information f) calls (frameNext s f ∷ []) (f ∷ []) 0
   unfolding framesGiven informationTaken tailTaken callOf givenBy encodedOf
   information-taken f w =
       record {
@@ -95,7 +90,7 @@ module _ (s : Session) (calls : List Call) where
         tails-are = ap (λ (r : SendOutcome). tailTaken (r .session) calls) (w .is) ∙ sym (zero-add _);
       }
 
-  pub tail-sent : tailOut s ≡ false → Step s (encodedOf s 0 (s .sent) (s .tail + 1) .session) tail calls (frameFor s 0 ∷ []) [] 1
+  pub tail-sent : tailOut s ≡ false → Step s (encodedOf s 0 (s .sent) (s .tail + 1) .session) tail calls (frameNext s 0 ∷ []) [] 1
   unfolding framesGiven informationTaken tailTaken callOf givenBy encodedOf
   tail-sent e =
       record {

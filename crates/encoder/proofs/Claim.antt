@@ -7,7 +7,7 @@ use mathlib.Core.Logic.{⊎-elim}
 use mathlib.Core.List.{List, [], _∷_}
 use native.Mathlib.Nat.{zero-add}
 use native.Mathlib.Omega.{arith}
-use lib.ListN.{length, getD, take, drop, replicate, length-append, length-drop, List·getD-eq-default}
+use lib.ListN.{length, getD, take, drop, length-append, length-drop, List·getD-eq-default}
 use lib.Seq.{drop-cons, length-take-le, take-all}
 use borrow.Author.Tests.{leb-false}
 use Rattle.bits.proofs.Lists.{dropped-head, dropped-rest, dropped-within}
@@ -18,11 +18,11 @@ use Rattle.code.specs.declared.Card.{Card}
 use Rattle.code.proofs.Registers.{HistoryBefore, history-start}
 use Rattle.code.proofs.Sending.{turn-history, turn-frame}
 use Rattle.code.proofs.Sent.{sent-length, sent-at}
-use Rattle.encoder.specs.Sending.{openOf, historyNext, encodedOf, tailOut}
+use Rattle.encoder.specs.Sending.{openOf, historyNext, frameNext, encodedOf, tailOut}
 use Rattle.encoder.specs.Calls.{Call, information, tail, framesGiven, informationTaken, tailTaken}
 use Rattle.encoder.specs.Claims.{Claims}
 use Rattle.encoder.specs.declared.Session.{Session}
-use Rattle.encoder.proofs.Calls.{Taken, NotTaken, information-outcome, tail-outcome, none-after-tail, Step, frameFor, information-taken, information-refused, tail-sent, tail-refused}
+use Rattle.encoder.proofs.Calls.{Taken, NotTaken, information-outcome, tail-outcome, none-after-tail, Step, information-taken, information-refused, tail-sent, tail-refused}
 
 -- the session with card c, these registers, n information frames taken and v tail frames out
 abbrev session : Card → List ℕ → ℕ → ℕ → Session
@@ -62,7 +62,7 @@ module _ (c : Card) (G : Guarantees c) (info : List ℕ) where
 
   follow : (calls : List Call) (n v : ℕ) (h : List ℕ) → n ≤ length info → v ≤ c .m → HistoryBefore c (withTail c info) (n + v) h
       → drop n info ≡ informationTaken (session c h n v) calls → Followed c (sent c info) (n + v) calls (session c h n v)
-  unfolding framesGiven informationTaken tailTaken encodedOf historyNext
+  unfolding framesGiven informationTaken tailTaken encodedOf historyNext frameNext
   follow [] n v h hn hv H e = record { frames-are = refl; tail-most = omega arith }
   follow (information f ∷ calls) n v h hn hv H e =
       let s = session c h n v in
@@ -76,8 +76,8 @@ module _ (c : Card) (G : Guarantees c) (info : List ℕ) where
       let z₁ : n ≡ n + v = omega arith in
       let hf : f ≡ getD info (n + v) 0 = dropped-head info n f _ e₀ ∙ ap (λ (t : ℕ). getD info t 0) z₁ in
       let t : suc (n + v) ≡ n + 1 + v = omega arith in
-      carry-sent c (sent c info) (n + v) (n + 1 + v) (frameFor s f) (f ∷ []) 0 s (session c h′ (n + 1) v) (information f) calls q
-      (stream-from (n + v) (n + 1 + v) (frameFor s f) (omega arith) (sym t) (turn-frame c G info (n + v) h f hf H)) refl (omega arith)
+      carry-sent c (sent c info) (n + v) (n + 1 + v) (frameNext s f) (f ∷ []) 0 s (session c h′ (n + 1) v) (information f) calls q
+      (stream-from (n + v) (n + 1 + v) (frameNext s f) (omega arith) (sym t) (turn-frame c G info (n + v) h f hf H)) refl (omega arith)
       (follow calls (n + 1) v h′ (omega arith) hv (subst (λ (x : ℕ). HistoryBefore c (withTail c info) x h′) t (turn-history c G info (n + v) h f hf H))
       (dropped-rest info n f _ e₀)))
       (λ (w : NotTaken s f).
@@ -99,8 +99,8 @@ module _ (c : Card) (G : Guarantees c) (info : List ℕ) where
       let room : v < c .m = omega (arith, leb-false (min (c .m) 31) v w, G .m-most) in
       let hf : 0 ≡ getD info (n + v) 0 = sym (List·getD-eq-default info 0 (omega arith)) in
       let t : suc (n + v) ≡ n + (v + 1) = omega arith in
-      carry-sent c (sent c info) (n + v) (n + (v + 1)) (frameFor s 0) [] 1 s (session c h′ n (v + 1)) tail calls q
-      (stream-from (n + v) (n + (v + 1)) (frameFor s 0) (omega arith) (sym t) (turn-frame c G info (n + v) h 0 hf H)) refl refl
+      carry-sent c (sent c info) (n + v) (n + (v + 1)) (frameNext s 0) [] 1 s (session c h′ n (v + 1)) tail calls q
+      (stream-from (n + v) (n + (v + 1)) (frameNext s 0) (omega arith) (sym t) (turn-frame c G info (n + v) h 0 hf H)) refl refl
       (follow calls n (v + 1) h′ hn (omega arith) (subst (λ (x : ℕ). HistoryBefore c (withTail c info) x h′) t (turn-history c G info (n + v) h 0 hf H)) e₀))
       (tail-outcome s)
 
@@ -111,7 +111,7 @@ module _ (c : Card) (G : Guarantees c) (calls : List Call) where
   unfolding openOf
   from-start =
       let info = informationTaken (openOf c) calls in
-      follow c G info calls 0 0 (replicate 4 0) (omega arith) (omega arith) (history-start c (withTail c info)) refl
+      follow c G info calls 0 0 (openOf c .history) (omega arith) (omega arith) (history-start c (withTail c info)) refl
 
   sent-first : framesGiven (openOf c) calls ≡ take (length (informationTaken (openOf c) calls) + tailTaken (openOf c) calls) (sent c (informationTaken (openOf c) calls))
   sent-first = from-start .frames-are

@@ -5,6 +5,7 @@ use mathlib.Core.List.{List}
 use Rattle.card.specs.Outcome.{Outcome, accepted, refused, outcomeOf, CardOutcome}
 use Rattle.card.specs.Promise.{CardPromise}
 use Rattle.card.specs.Reading.{readCard}
+use Rattle.code.specs.Code.{mostFrames}
 use Rattle.code.specs.declared.Card.{Card}
 use Rattle.card.specs.declared.CardRead.{CardRead}
 use Rattle.card.proofs.RefusedCard.{not-both, refused-card}
@@ -37,10 +38,10 @@ module _ (bytes : List ℕ) (read : CardRead) (promise : CardPromise bytes read)
         shut = λ n offset w. absurd (not-both e w);
       }
 
-  pub opened-refused : {n at : ℕ} → outcomeOf (read .verdict) ≡ refused n at → s ≡ unsentOf (read .card) 1048576 → OpenPromise bytes (record { verdict = read .verdict; session = s })
+  pub opened-refused : {n at : ℕ} → outcomeOf (read .verdict) ≡ refused n at → s ≡ unsentOf (read .card) mostFrames → OpenPromise bytes (record { verdict = read .verdict; session = s })
   unfolding sessionFor closed
   opened-refused e q =
-      let own : s ≡ closed = q ∙ ap (λ (c : Card). unsentOf c 1048576) (card-is ∙ refused-card bytes (sym outcome-is ∙ e)) in
+      let own : s ≡ closed = q ∙ ap (λ (c : Card). unsentOf c mostFrames) (card-is ∙ refused-card bytes (sym outcome-is ∙ e)) in
       record {
         verdict-is = outcome-is;
         session-is = own ∙ ap (λ (o : Outcome). sessionFor o (readCard bytes .card)) (sym e ∙ outcome-is);

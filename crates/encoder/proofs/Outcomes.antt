@@ -1,20 +1,9 @@
 -- What a sending call comes to under each condition.
 use Prim.Native.Nat.{ℕ, _+_}
-use mathlib.Core.Path.{_≡_, ap, ap₂, _∙_}
+use mathlib.Core.Path.{_≡_}
 use mathlib.Core.Bool.{true, false}
-use mathlib.Core.List.{List}
-use Rattle.code.specs.Registers.{historyBy, frameBy}
-use Rattle.encoder.specs.Outcome.{frame, SendOutcome}
-use Rattle.encoder.specs.Sending.{refusedOf, historyNext, encodedOf, tailBegun, noRoom, digitBeyond, tailOut, sendOf, sendTailOf}
+use Rattle.encoder.specs.Sending.{refusedOf, encodedOf, tailBegun, noRoom, digitBeyond, tailOut, sendOf, sendTailOf}
 use Rattle.encoder.specs.declared.Session.{Session}
-
--- the frame and the registers that the code has made
-pub encoded : (s : Session) (f n v x : ℕ) (h : List ℕ) → h ≡ historyBy (s .history) (s .card .k) f → x ≡ frameBy (s .card .generators) h (s .card .k) (s .card .p) f
-    → _≡_ {A = SendOutcome} (record { outcome = frame x; session = record { card = s .card; history = h; sent = n; tail = v } }) (encodedOf s f n v)
-unfolding encodedOf historyNext
-encoded s f n v x h eh ex =
-    ap₂ (λ (y : ℕ) (l : List ℕ). record { outcome = frame y; session = record { card = s .card; history = l; sent = n; tail = v } })
-    (ex ∙ ap (λ (l : List ℕ). frameBy (s .card .generators) l (s .card .k) (s .card .p) f) eh) eh
 
 module _ (s : Session) (f : ℕ) where
   pub send-begun : tailBegun s ≡ true → sendOf s f ≡ refusedOf s 16

@@ -7,6 +7,7 @@ use mathlib.Core.List.{List}
 use Rattle.card.specs.Fields.{emptyCard}
 use Rattle.card.specs.Outcome.{Outcome, accepted, refused, outcomeOf}
 use Rattle.card.specs.Reading.{readCard}
+use Rattle.code.specs.Code.{mostFrames}
 use Rattle.code.specs.declared.Card.{Card}
 use Rattle.encoder.specs.Claims.{Claims}
 use Rattle.encoder.specs.Sending.{unsentOf, openOf, refusedOf, sendOf, sendTailOf}
@@ -15,7 +16,7 @@ use Rattle.encoder.specs.declared.Session.{Session}
 
 -- the session of a refused opening: the empty card, and no room for a frame
 unfoldable pub closed : Session
-closed = unsentOf emptyCard 1048576
+closed = unsentOf emptyCard mostFrames
 
 -- the session that reading a card leads to
 unfoldable pub sessionFor : Outcome → Card → Session

@@ -7,6 +7,7 @@ use mathlib.Core.Bool.{Bool, cond}
 use mathlib.Core.List.{List}
 use lib.ListN.{replicate}
 use lib.Dec.{leb, ltb}
+use Rattle.code.specs.Code.{mostFrames}
 use Rattle.code.specs.Registers.{historyBy, frameBy}
 use Rattle.code.specs.declared.Card.{Card}
 use Rattle.encoder.specs.Outcome.{frame, refused, SendOutcome}
@@ -28,11 +29,15 @@ refusedOf s n = record { outcome = refused n; session = s }
 unfoldable pub historyNext : Session → ℕ → List ℕ
 historyNext s f = historyBy (s .history) (s .card .k) f
 
--- the frame for the information frame f, and the session after it, with n information frames taken and v tail frames out
+-- the frame for the information frame f
+unfoldable pub frameNext : Session → ℕ → ℕ
+frameNext s f = frameBy (s .card .generators) (historyNext s f) (s .card .k) (s .card .p) f
+
+-- that frame, and the session after it, with n information frames taken and v tail frames out
 unfoldable pub encodedOf : Session → ℕ → ℕ → ℕ → SendOutcome
 encodedOf s f n v =
     record {
-      outcome = frame (frameBy (s .card .generators) (historyNext s f) (s .card .k) (s .card .p) f);
+      outcome = frame (frameNext s f);
       session = record { card = s .card; history = historyNext s f; sent = n; tail = v };
     }
 
@@ -42,7 +47,7 @@ tailBegun s = ltb 0 (s .tail)
 
 -- 15: "sending this one would leave fewer than m of 1,048,576 for the tail"
 abbrev pub noRoom : Session → Bool
-noRoom s = ltb 1048576 (s .sent + 1 + min (s .card .m) 31)
+noRoom s = ltb mostFrames (s .sent + 1 + min (s .card .m) 31)
 
 -- 11: "a frame has a digit beyond its streams"
 abbrev pub digitBeyond : Session → ℕ → Bool

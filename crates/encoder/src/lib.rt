@@ -7,6 +7,7 @@ ghost use Rattle.encoder.specs.Sending.{unsentOf, refusedOf, encodedOf, 
 use card::Refusal;
 use card::Verdict;
 use code::Card;
+use code::MOST_FRAMES;
 
 // A session. What came before its first frame is zero, as the code says.
 pub struct Session {
@@ -61,7 +62,7 @@ pub fn open(card: &[u8]) -> Opened
             refusal: _,
             offset: _,
         } => {
-            let session = unsent(card, 1048576);
+            let session = unsent(card, MOST_FRAMES as u32);
             Opened { verdict, session }
         }
     }
@@ -85,9 +86,9 @@ fn encode(s: Session, info: u8, sent: u32, tail: usize) -> Sent
     let generators = card.generators;
     let before = s.history;
     let history = code::history(&before, card.k, info as u32);
-    let frame = code::frame(&generators, &history, card.k, card.p, info as u32);
+    let frame = code::frame(&generators, &history, card.k, card.p, info as u32) as u8;
     Sent {
-        answer: Answer::Frame(frame as u8),
+        answer: Answer::Frame(frame),
         session: Session {
             card,
             history,
@@ -107,7 +108,7 @@ pub fn send(s: Session, info: u8) -> Sent
     }
     let sent = s.sent;
     let card = s.card;
-    if 1048576 < sent as usize + 1 + bits::at_most(card.m, 31) {
+    if MOST_FRAMES < sent as usize + 1 + bits::at_most(card.m, 31) {
         return refused(s, Refusal::TooManyFrames);
     }
     if bits::beyond(info, bits::at_most(card.k, 4)) {

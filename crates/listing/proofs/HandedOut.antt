@@ -10,6 +10,7 @@ use lib.IntN.{ℤ, pos}
 use Rattle.bits.specs.Digits.{anyBeyond}
 use Rattle.card.specs.Outcome.{Outcome}
 use Rattle.card.specs.Reading.{readCard}
+use Rattle.code.specs.Code.{mostFrames}
 use Rattle.code.specs.declared.Card.{Card}
 use Rattle.majority.specs.Rule.{decoded}
 use Rattle.majority.proofs.Streams.{decoded-length}
@@ -26,7 +27,7 @@ module _ (card frames buffer : List ℕ) (A : Admitted card frames buffer) where
       ap (λ (o : Outcome). underCard o (receiveUnder (readCard card .card) frames buffer) buffer) (A .card-accepted)
       ∙ receive-given (readCard card .card) frames buffer (A .few-enough) (A .output-long-enough) (A .within-streams)
 
-  pub count-most : length (decoded (readCard card .card) frames) ≤ 1048576
+  pub count-most : length (decoded (readCard card .card) frames) ≤ mostFrames
   count-most = omega (arith, A .few-enough, decoded-length (readCard card .card) frames)
 
   module _ {answer : ℤ} {after : List ℕ} (e : outcome answer after ≡ receiveOf card frames buffer) where

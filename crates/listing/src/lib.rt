@@ -11,35 +11,24 @@ ghost use Rattle.card.specs.Outcome.Outcome.{accepted};
 ghost use Rattle.card.specs.Reading.{readCard};
 ghost use Rattle.majority.specs.Rule.{decoded};
 ghost use Rattle.outcomes.specs.Claims.{Admitted};
-ghost use Rattle.outcomes.specs.Listing.{statedLength, firstBeyond, listingOf, listingUnder};
+ghost use Rattle.outcomes.specs.Listing.{firstBeyond, listingOf, listingUnder};
 ghost use Rattle.listing.specs.Promise.{Lists};
 ghost use Rattle.listing.specs.Written.{WroteWhole, HandsOut, ReadAs};
-use bits::size;
 use card::Refusal;
 use card::Verdict;
 use code::Card;
+use outcomes::LONGEST_CARD;
+use outcomes::stated_length;
 
-// The longest card and the most frames that are listed.
-const LONGEST_CARD: usize = 2048;
-
-const MOST_FRAMES: usize = 32768;
+// The most frames that are listed.
+const MOST_LISTED: usize = 32768;
 
 // The longest input that is listed: two bytes of length, the longest card and the most frames.
-pub const LONGEST_INPUT: usize = 2 + 2048 + 32768;
+pub const LONGEST_INPUT: usize = 2 + LONGEST_CARD + MOST_LISTED;
 
 // No listing is longer: the first line has at most 22 bytes (`card 255 k 4 n 8 m 31`), that of each frame at most 14 (a time of five digits,
 // four streams), the last one at most 10 (`end 32768`), and a refusal or `input too long` stands alone.
-pub const LISTING_ROOM: usize = 22 + 14 * 32768 + 10;
-
-// The stated length of the card, 0 where a length byte is missing.
-fn stated_length(input: &[u8]) -> usize
-    ensures { λ r. ⌜ r ≡ statedLength (now (input .entry)) ⌝ }
-{
-    if input.len() < 2 {
-        return 0;
-    }
-    size(input[0]) + size(input[1]) * 256
-}
+pub const LISTING_ROOM: usize = 22 + 14 * MOST_LISTED + 10;
 
 // The first bytes, so many or all there are.
 fn front(bytes: &[u8], count: usize) -> &[u8]
@@ -92,7 +81,7 @@ fn list_received(card: Card, bytes: &[u8], frames: &[u8], output: &mut [u8]) -> 
     ensures { λ r. ⌜ WroteWhole 458784 (now (output .entry)) (listingOf card (decoded card (now (frames .entry)))) (now (output .exit)) r ⌝ }
 {
     let k = card.k;
-    let mut buffer = [0u8; MOST_FRAMES];
+    let mut buffer = [0u8; MOST_LISTED];
     let count = receive(bytes, frames, &mut buffer);
     let after_card = lines::card_line(output, card.number, k, k + card.p, card.m);
     let after_frames = lines::frame_lines(output, after_card, k, &buffer[..count]);
@@ -135,7 +124,7 @@ pub fn list(input: &[u8], output: &mut [u8; LISTING_ROOM]) -> usize
     if LONGEST_CARD < length {
         return lines::too_long(output);
     }
-    if MOST_FRAMES < frames.len() {
+    if MOST_LISTED < frames.len() {
         return lines::too_long(output);
     }
     list_parts(card, frames, output)

@@ -24,7 +24,7 @@ module _ (input : List ℕ) where
   decided : (b : Bool) → tooLong input ≡ b
       → listing input ≡ cond b tooLongLine (listingUnder (readCard (cardBytes input) .outcome) (readCard (cardBytes input) .card) (frameBytes input))
   unfolding listing
-  decided b e = rw e
+  decided b e = ap (λ b. cond b tooLongLine (listingUnder (readCard (cardBytes input) .outcome) (readCard (cardBytes input) .card) (frameBytes input))) e
 
   or-true : (b : Bool) → (b || true) ≡ true
   or-true true = refl

@@ -7,7 +7,7 @@ use lib.ListN.{length, drop}
 use lib.IntN.{ℤ, pos, negℤ}
 use borrow.Author.Tests.{lt-ltb, le-ltb}
 use Rattle.bits.specs.Digits.{anyBeyond}
-use Rattle.code.specs.Code.{sent}
+use Rattle.code.specs.Code.{mostFrames, sent}
 use Rattle.card.specs.Outcome.{Outcome, accepted, refused, outcomeOf, CardOutcome}
 use Rattle.card.specs.Promise.{CardPromise}
 use Rattle.card.specs.Reading.{readCard}
@@ -28,23 +28,23 @@ given-is count frames output q e a =
     ap₂ outcome e a ∙ ap (λ (n : ℕ). outcome (pos n) (frames ++ drop n output)) (sym q)
 
 module _ (c : Card) (input output : List ℕ) where
-  pub under-full : 1048576 < length input + c .m → sendUnder c input output ≡ refusedOf 15 output
+  pub under-full : mostFrames < length input + c .m → sendUnder c input output ≡ refusedOf 15 output
   unfolding sendUnder
-  under-full l = rw (sent-length c input, lt-ltb 1048576 (length input + c .m) l)
+  under-full l = rw (sent-length c input, lt-ltb mostFrames (length input + c .m) l)
 
-  module _ (r : length input + c .m ≤ 1048576) where
+  module _ (r : length input + c .m ≤ mostFrames) where
     pub under-short : length output < length input + c .m → sendUnder c input output ≡ refusedOf 13 output
     unfolding sendUnder
-    under-short l = rw (sent-length c input, le-ltb 1048576 (length input + c .m) r, lt-ltb (length output) (length input + c .m) l)
+    under-short l = rw (sent-length c input, le-ltb mostFrames (length input + c .m) r, lt-ltb (length output) (length input + c .m) l)
 
     module _ (o : length input + c .m ≤ length output) where
       pub under-beyond : anyBeyond (c .k) input ≡ true → sendUnder c input output ≡ refusedOf 11 output
       unfolding sendUnder
-      under-beyond b = rw (sent-length c input, le-ltb 1048576 (length input + c .m) r, le-ltb (length output) (length input + c .m) o, b)
+      under-beyond b = rw (sent-length c input, le-ltb mostFrames (length input + c .m) r, le-ltb (length output) (length input + c .m) o, b)
 
       pub under-sent : anyBeyond (c .k) input ≡ false → sendUnder c input output ≡ givenOf (sent c input) output
       unfolding sendUnder
-      under-sent b = rw (sent-length c input, le-ltb 1048576 (length input + c .m) r, le-ltb (length output) (length input + c .m) o, b)
+      under-sent b = rw (sent-length c input, le-ltb mostFrames (length input + c .m) r, le-ltb (length output) (length input + c .m) o, b)
 
 -- with the card's bytes
 module _ (bytes : List ℕ) (read : CardRead) (promise : CardPromise bytes read) (input output : List ℕ) where

@@ -9,6 +9,7 @@ use lib.Seq.{take-at}
 use lib.IntN.{ℤ, pos, negℤ}
 use borrow.Author.Tests.{lt-ltb, le-ltb}
 use Rattle.bits.specs.Digits.{anyBeyond}
+use Rattle.code.specs.Code.{mostFrames}
 use Rattle.code.specs.Guarantees.{Guarantees}
 use Rattle.card.specs.Outcome.{Outcome, accepted, refused, outcomeOf, CardOutcome}
 use Rattle.card.specs.Promise.{CardPromise}
@@ -24,23 +25,23 @@ use Rattle.outcomes.specs.Claims.{Admitted, CameOut, ComesOutAsSent}
 use Rattle.outcomes.proofs.Outcomes.{refused-is}
 
 module _ (c : Card) (input output : List ℕ) where
-  pub receive-full : 1048576 < length input → receiveUnder c input output ≡ refusedOf 15 output
+  pub receive-full : mostFrames < length input → receiveUnder c input output ≡ refusedOf 15 output
   unfolding receiveUnder
-  receive-full l = rw (lt-ltb 1048576 (length input) l)
+  receive-full l = rw (lt-ltb mostFrames (length input) l)
 
-  module _ (r : length input ≤ 1048576) where
+  module _ (r : length input ≤ mostFrames) where
     pub receive-short : length output < length input - c .m → receiveUnder c input output ≡ refusedOf 13 output
     unfolding receiveUnder
-    receive-short l = rw (le-ltb 1048576 (length input) r, decoded-length c input, lt-ltb (length output) (length input - c .m) l)
+    receive-short l = rw (le-ltb mostFrames (length input) r, decoded-length c input, lt-ltb (length output) (length input - c .m) l)
 
     module _ (o : length input - c .m ≤ length output) where
       pub receive-beyond : anyBeyond (c .k + c .p) input ≡ true → receiveUnder c input output ≡ refusedOf 11 output
       unfolding receiveUnder
-      receive-beyond b = rw (le-ltb 1048576 (length input) r, decoded-length c input, le-ltb (length output) (length input - c .m) o, b)
+      receive-beyond b = rw (le-ltb mostFrames (length input) r, decoded-length c input, le-ltb (length output) (length input - c .m) o, b)
 
       pub receive-given : anyBeyond (c .k + c .p) input ≡ false → receiveUnder c input output ≡ givenOf (decoded c input) output
       unfolding receiveUnder
-      receive-given b = rw (le-ltb 1048576 (length input) r, decoded-length c input, le-ltb (length output) (length input - c .m) o, b)
+      receive-given b = rw (le-ltb mostFrames (length input) r, decoded-length c input, le-ltb (length output) (length input - c .m) o, b)
 
 -- ---- with the card's bytes
 module _ (bytes : List ℕ) (read : CardRead) (promise : CardPromise bytes read) (input output : List ℕ) where

@@ -11,13 +11,14 @@ use lib.IntN.{ℤ, pos}
 use Rattle.bits.specs.Digits.{anyBeyond}
 use Rattle.card.specs.Outcome.Outcome.{accepted}
 use Rattle.card.specs.Reading.{readCard}
+use Rattle.code.specs.Code.{mostFrames}
 use Rattle.code.specs.declared.Card.{Card}
 use Rattle.majority.specs.AsSent.{Correctable}
 
 -- the burst meets none of the refusals: the card's, 15, 13 and 11
 pub record Admitted (card input output : List ℕ) : Type 0 where
   pub card-accepted : readCard card .outcome ≡ accepted
-  pub few-enough : length input ≤ 1048576
+  pub few-enough : length input ≤ mostFrames
   pub output-long-enough : length input - readCard card .card .m ≤ length output
   pub within-streams : anyBeyond (readCard card .card .k + readCard card .card .p) input ≡ false
 

@@ -7,6 +7,7 @@ use lib.ListN.{length}
 use lib.Dec.{ltb}
 use Rattle.bits.specs.Digits.{anyBeyond}
 use Rattle.card.specs.Reading.{readCard}
+use Rattle.code.specs.Code.{mostFrames}
 use Rattle.code.specs.declared.Card.{Card}
 use Rattle.majority.specs.Rule.{decoded}
 use Rattle.outcomes.specs.Outcome.{BurstOutcome, refusedOf, givenOf, underCard}
@@ -14,7 +15,7 @@ use Rattle.outcomes.specs.Outcome.{BurstOutcome, refusedOf, givenOf, und
 -- under the card c: "15 by length .., 13, 11"; "the first m frames give 'waiting'; each later one gives the frame m before it"
 unfoldable pub receiveUnder : Card → List ℕ → List ℕ → BurstOutcome
 receiveUnder c input output =
-    cond (ltb 1048576 (length input)) (refusedOf 15 output)
+    cond (ltb mostFrames (length input)) (refusedOf 15 output)
     (cond (ltb (length output) (length (decoded c input))) (refusedOf 13 output)
     (cond (anyBeyond (c .k + c .p) input) (refusedOf 11 output)
     (givenOf (decoded c input) output)))

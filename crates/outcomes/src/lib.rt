@@ -1,2 +1,18 @@
-// What a burst and a listing come to, by the definitions, and the third term for a burst. There is no code here: that of `burst` and `listing` is
-// proved to come to this.
+// What a burst and a listing come to, by the definitions, and the third term for a burst: the code of `burst` and `listing` is proved to come to
+// this. The only code here is what the listing and the trace share: the length of the card that an input states.
+ghost use mathlib.Core.Path.{_≡_};
+ghost use Rattle.outcomes.specs.Listing.{statedLength};
+use bits::size;
+
+// The longest card that is listed or traced, by its stated length.
+pub const LONGEST_CARD: usize = 2048;
+
+// The stated length of the card, 0 where a length byte is missing.
+pub fn stated_length(input: &[u8]) -> usize
+    ensures { λ r. ⌜ r ≡ statedLength (now (input .entry)) ⌝ }
+{
+    if input.len() < 2 {
+        return 0;
+    }
+    size(input[0]) + size(input[1]) * 256
+}

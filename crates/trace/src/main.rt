@@ -4,24 +4,18 @@ mod lines;
 mod records;
 
 use card::Verdict;
+use outcomes::LONGEST_CARD;
+use outcomes::stated_length;
 
 // The longest input, and one byte to tell that there is more.
 const ROOM: usize = 65537;
-
-// The card's length as it is stated, 0 where its bytes are missing.
-fn stated_length(input: &[u8]) -> usize {
-    if input.len() < 2 {
-        return 0;
-    }
-    bits::size(input[0]) + bits::size(input[1]) * 256
-}
 
 // Opens both sessions with the card, and goes through the records after it.
 fn trace(input: &[u8]) {
     let start = bits::at_most(2, input.len());
     let rest = &input[start..];
     let stated = stated_length(input);
-    if 2048 < stated {
+    if LONGEST_CARD < stated {
         lines::too_long();
         return;
     }

@@ -17,6 +17,9 @@ unsent-requires c κs = search needs
 enum-told-2 : tie.Need-enum-told-2
 enum-told-2 c = search needs
 
+cast-unsent : tie.Need-cast-unsent
+cast-unsent c = search needs
+
 unsent-requires-2 : tie.Need-unsent-requires-2
 unsent-requires-2 c κs = search needs
 
@@ -40,6 +43,7 @@ open-spec =
     enum-told
     unsent-requires
     enum-told-2
+    cast-unsent
     unsent-requires-2
     returns
     returns-2)

@@ -4,6 +4,7 @@ use mathlib.Core.Path.{sym, ap, _∙_}
 use lib.Dec.{ltb, leb}
 use borrow.Author.Needs.{needs}
 use borrow.Author.Tests.{lt-ltb, le-ltb}
+use Rattle.code.specs.Code.{mostFrames}
 use Rattle.encoder.proofs.Outcomes.{send-begun, send-full, send-beyond, send-taken}
 use Rattle.encoder.proofs.send.Statement.{statement}
 use Rattle.encoder.proofs.send.Tie as tie
@@ -38,7 +39,7 @@ returns-2 c =
     c .refused2 .ensures
     ∙ sym
     (send-full (a .s) (a .info) (le-ltb _ _ (c .before .before .before .before .if1 .left))
-    (sym (ap (λ (n : ℕ). ltb 1048576 (a .s .sent + 1 + n)) (m .ensures)) ∙ lt-ltb _ _ (c .before .if2 .taken)))
+    (sym (ap (λ (n : ℕ). ltb mostFrames (a .s .sent + 1 + n)) (m .ensures)) ∙ lt-ltb _ _ (c .before .if2 .taken)))
 
 at-most-requires-2 : tie.Need-at-most-requires-2
 at-most-requires-2 c κs = search needs
@@ -57,7 +58,7 @@ returns-3 c =
     c .refused3 .ensures
     ∙ sym
     (send-beyond (a .s) (a .info) (le-ltb _ _ (c .before .before .before .before .before .before .before .if1 .left))
-    (sym (ap (λ (n : ℕ). ltb 1048576 (a .s .sent + 1 + n)) (m .ensures)) ∙ le-ltb _ _ (c .before .before .before .before .if2 .left))
+    (sym (ap (λ (n : ℕ). ltb mostFrames (a .s .sent + 1 + n)) (m .ensures)) ∙ le-ltb _ _ (c .before .before .before .before .if2 .left))
     (sym (c .before .before .beyond .ensures ∙ ap (λ (n : ℕ). leb (2 ^ n) (a .info)) (k .ensures)) ∙ c .before .if3 .taken))
 
 add-encode : tie.Need-add-encode
@@ -74,7 +75,7 @@ returns-4 c =
     c .encode .ensures
     ∙ sym
     (send-taken (a .s) (a .info) (le-ltb _ _ (c .before .before .before .before .before .before .before .if1 .left))
-    (sym (ap (λ (n : ℕ). ltb 1048576 (a .s .sent + 1 + n)) (m .ensures)) ∙ le-ltb _ _ (c .before .before .before .before .if2 .left))
+    (sym (ap (λ (n : ℕ). ltb mostFrames (a .s .sent + 1 + n)) (m .ensures)) ∙ le-ltb _ _ (c .before .before .before .before .if2 .left))
     (sym (c .before .before .beyond .ensures ∙ ap (λ (n : ℕ). leb (2 ^ n) (a .info)) (k .ensures)) ∙ c .before .if3 .left))
 
 pub send-spec : {M : Type 1} → statement M

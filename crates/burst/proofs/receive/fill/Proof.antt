@@ -1,23 +1,26 @@
 -- The loop has taken in the frames that it passed.
-use Prim.Native.Nat.{_-_, _≤_}
+use Prim.Native.Nat.{ℕ, _-_, _≤_}
 use mathlib.Core.Path.{_≡_}
+use mathlib.Core.List.{List}
 use native.Mathlib.Nat.{le-antisymm}
 use native.Mathlib.Omega.{arith}
 use lib.ListN.{length}
-use Rattle.burst.specs.Held.{Carried}
+use Rattle.burst.specs.Registers.{registers}
+use Rattle.burst.specs.Held.{tables, Carried}
 use Rattle.burst.proofs.Waiting.{coming-length, syndromes-length, wait-more}
 use Rattle.burst.proofs.receive.fill.Statement.{statement}
 use Rattle.burst.proofs.receive.fill.Tie as tie
 
 abbrev Inv-loop : tie.InvT-loop
 Inv-loop syndromes₀ coming₀ sums k p m input t₀ syndromes coming t =
-    (t ≤ m) × (length syndromes ≡ 8) × (length coming ≡ 8) × Carried sums k p m input 0 t coming₀ syndromes₀ coming syndromes
+    (t ≤ m) × (length syndromes ≡ 8) × (length coming ≡ 8)
+    × ((counts checks : List ℕ) → Carried (tables sums counts checks k p m) input t (registers coming₀ syndromes₀) (registers coming syndromes))
 
 abbrev μ-loop : tie.MeasureT-loop
 μ-loop syndromes₀ coming₀ sums k p m input t₀ syndromes coming t = m - t
 
 loop-holds : tie.Need-loop-holds Inv-loop μ-loop
-loop-holds c = (omega arith, omega arith, omega arith, λ number g n checks G e B. B)
+loop-holds c = (omega arith, omega arith, omega arith, λ counts checks number g G e B. B)
 
 shared-slice-read-take-in : tie.Need-shared-slice-read-take-in Inv-loop μ-loop
 shared-slice-read-take-in c = omega arith
@@ -39,7 +42,7 @@ loop-again c =
       omega arith,
       syndromes-length T (omega arith) (l .inv .1),
       coming-length T (omega arith) (l .inv .2),
-      wait-more (a .input .now) 0 (l .t) (omega arith) T (l .inv .3),
+      λ counts checks. wait-more (tables (a .sums .now) counts checks (a .k) (a .p) (a .m)) (a .input .now) (l .t) (omega arith) T (l .inv .3 counts checks),
     )
 
 returns : tie.Need-returns Inv-loop μ-loop

@@ -4,7 +4,8 @@ use mathlib.Core.Path.{_≡_, _∙_}
 use native.Mathlib.Nat.{le-antisymm}
 use native.Mathlib.Omega.{arith}
 use lib.ListN.{length, length-set}
-use Rattle.burst.specs.Held.{HandedOut}
+use Rattle.burst.specs.Registers.{registers}
+use Rattle.burst.specs.Held.{tables, HandedOut}
 use Rattle.burst.proofs.Waiting.{coming-length, syndromes-length}
 use Rattle.burst.proofs.HandingOut.{none-written, after-length, errors-small, hand-more, hand-none}
 use Rattle.burst.proofs.receive.hand_out.Statement.{statement}
@@ -13,7 +14,7 @@ use Rattle.burst.proofs.receive.hand_out.Tie as tie
 abbrev Inv-loop : tie.InvT-loop
 Inv-loop syndromes₀ coming₀ sums counts checks k p m input output₀ t₀ syndromes coming output t =
     (m ≤ t) × (t ≤ length input) × (length syndromes ≡ 8) × (length coming ≡ 8) × (length output ≡ length output₀)
-    × HandedOut sums counts checks k p m input t coming₀ syndromes₀ output₀ coming syndromes output
+    × HandedOut (tables sums counts checks k p m) input t (registers coming₀ syndromes₀) (registers coming syndromes) output₀ output
 
 abbrev μ-loop : tie.MeasureT-loop
 μ-loop syndromes₀ coming₀ sums counts checks k p m input output₀ t₀ syndromes coming output t = length input - t
@@ -26,7 +27,7 @@ loop-holds c =
       omega arith,
       omega arith,
       omega arith,
-      hand-none (a .sums .now) (a .counts .now) (a .checks .now) (a .input .now) (a .coming .now) (a .syndromes .now) (a .output .now) (a .k) (a .p) (a .m),
+      hand-none (tables (a .sums .now) (a .counts .now) (a .checks .now) (a .k) (a .p) (a .m)) (a .input .now) (registers (a .coming .now) (a .syndromes .now)) (a .output .now),
     )
 
 shared-slice-read-take-in : tie.Need-shared-slice-read-take-in Inv-loop μ-loop
@@ -48,7 +49,7 @@ shared-slice-read-corrected : tie.Need-shared-slice-read-corrected Inv-loop μ-l
 shared-slice-read-corrected c = omega arith
 
 corrected-requires : tie.Need-corrected-requires Inv-loop μ-loop
-corrected-requires c κs = (omega arith, errors-small (c .before .correct .ensures) (omega arith))
+corrected-requires c κs = (omega arith, errors-small (c .before .correct .ensures))
 
 slice-write-output : tie.Need-slice-write-output Inv-loop μ-loop
 slice-write-output c = omega arith
@@ -70,7 +71,7 @@ loop-again c =
       after-length C (omega arith) (syndromes-length T (omega arith) (l .inv .2)),
       coming-length T (omega arith) (l .inv .3),
       length-set (l .output) (l .t - a .m) (c .corrected .result) ∙ l .inv .4,
-      hand-more (a .input .now) (l .t) (c .corrected .result) (a .output .now) (l .inv .0) (omega arith) (omega arith) T C (c .corrected .ensures) (l .inv .5),
+      hand-more (tables (a .sums .now) (a .counts .now) (a .checks .now) (a .k) (a .p) (a .m)) (a .input .now) (l .t) (c .corrected .result) (a .output .now) (l .inv .0) (omega arith) (omega arith) T C (c .corrected .ensures) (l .inv .5),
     )
 
 same-length : tie.Need-same-length Inv-loop μ-loop

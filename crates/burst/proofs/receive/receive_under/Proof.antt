@@ -1,6 +1,6 @@
 -- Each way out of the call by the tests that led to it.
 use Prim.Native.Nat.{_-_, _≤_, _<_}
-use mathlib.Core.Path.{sym, ap, _∙_}
+use mathlib.Core.Path.{refl, sym, ap, _∙_}
 use native.Mathlib.Omega.{arith}
 use lib.ListN.{length}
 use lib.IntN.{pos}
@@ -8,6 +8,7 @@ use borrow.Author.Needs.{needs}
 use Rattle.code.specs.Checks.{count}
 use Rattle.majority.specs.Rule.{decoded}
 use Rattle.majority.proofs.Streams.{decoded-length}
+use Rattle.burst.specs.Registers.{generatorSums}
 use Rattle.burst.proofs.Answers.{answer-is}
 use Rattle.outcomes.proofs.Outcomes.{refused-is, given-is}
 use Rattle.outcomes.proofs.Received.{receive-full, receive-short, receive-beyond, receive-given}
@@ -74,7 +75,7 @@ returns-4 c =
     let o : length (a .input .now) - a .t1 .m ≤ length (a .output .now) = rw n at (c .before .before .before .before .before .before .before .before .before .before .before .if2 .left) in
     given-is (length (a .input .now) - a .t1 .m) (decoded (a .t1) (a .input .now)) (a .output .now) (decoded-length (a .t1) (a .input .now))
     (answer-is (c .frames .result) (c .frames .ok) (c .frames .ensures ∙ ap pos n))
-    (c .before .before .before .receive-frames .ensures (a .t1 .number) (start .pre))
+    (c .before .before .before .receive-frames .ensures (a .t1 .number) (a .t1 .generators) (start .pre) (refl {a = generatorSums (a .t1 .generators)}))
     ∙ sym
     (receive-given (a .t1) (a .input .now) (a .output .now) (c .before .before .before .before .before .before .before .before .before .before .before .before .before .if1 .left) o (sym (c .before .before .before .before .before .before .before .before .before .before .any-beyond .ensures) ∙ c .before .before .before .before .before .before .before .before .before .if3 .left))
 

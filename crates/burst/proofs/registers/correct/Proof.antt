@@ -3,7 +3,8 @@ use mathlib.Core.Path.{refl, sym}
 use mathlib.Core.Logic.{inl, inr}
 use native.Mathlib.Omega.{arith}
 use borrow.Author.Needs.{needs}
-use Rattle.majority.proofs.Voting.{decide-lt, decide-none}
+use Rattle.majority.proofs.Voting.{decide-none}
+use Rattle.burst.proofs.Deciding.{decided-small}
 use Rattle.burst.proofs.registers.correct.Statement.{statement}
 use Rattle.burst.proofs.registers.correct.Tie as tie
 
@@ -18,10 +19,7 @@ decide-requires : tie.Need-decide-requires
 decide-requires c κs = search needs
 
 take-out-requires : tie.Need-take-out-requires
-take-out-requires c κs =
-    let d = c .before .before .decide in
-    let l : d .result < 16 = rw (d .ensures) (decide-lt _ _ _ _ _) in
-    omega arith
+take-out-requires c κs = search (needs, decided-small)
 
 returns-2 : tie.Need-returns-2
 returns-2 c = record { errors-are = c .before .before .before .decide .ensures; after-is = inr (c .take-out .ensures) }

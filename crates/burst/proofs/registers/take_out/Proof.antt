@@ -28,23 +28,23 @@ loop-holds : tie.Need-loop-holds Inv-loop μ-loop
 unfolding upTo
 loop-holds c = (omega arith, refl)
 
+add-change : tie.Need-add-change Inv-loop μ-loop
+add-change c = search needs
+
+mul-change : tie.Need-mul-change Inv-loop μ-loop
+mul-change c = search needs
+
+element-copy-out-change : tie.Need-element-copy-out-change Inv-loop μ-loop
+element-copy-out-change c = search needs
+
 mul-syndromes : tie.Need-mul-syndromes Inv-loop μ-loop
 mul-syndromes c = search needs
 
 element-copy-out-syndromes : tie.Need-element-copy-out-syndromes Inv-loop μ-loop
 element-copy-out-syndromes c = search needs
 
-add-syndromes : tie.Need-add-syndromes Inv-loop μ-loop
-add-syndromes c = search needs
-
 mul-syndromes-2 : tie.Need-mul-syndromes-2 Inv-loop μ-loop
 mul-syndromes-2 c = search needs
-
-element-copy-out-syndromes-2 : tie.Need-element-copy-out-syndromes-2 Inv-loop μ-loop
-element-copy-out-syndromes-2 c = search needs
-
-mul-syndromes-3 : tie.Need-mul-syndromes-3 Inv-loop μ-loop
-mul-syndromes-3 c = search needs
 
 element-write-syndromes : tie.Need-element-write-syndromes Inv-loop μ-loop
 element-write-syndromes c = search needs
@@ -79,12 +79,12 @@ take-out-spec =
     index-requires
     mul-at
     loop-holds
+    add-change
+    mul-change
+    element-copy-out-change
     mul-syndromes
     element-copy-out-syndromes
-    add-syndromes
     mul-syndromes-2
-    element-copy-out-syndromes-2
-    mul-syndromes-3
     element-write-syndromes
     add-j
     loop-less

@@ -1,10 +1,10 @@
 use native.Mathlib.Omega.{arith}
 use lib.ListN.{length}
 use borrow.Author.Tests.{lt-leb, le-leb}
 use Rattle.outcomes.specs.Listing.{statedLength}
 use borrow.Author.Needs.{needs}
-use Rattle.listing.proofs.stated_length.Statement.{statement}
-use Rattle.listing.proofs.stated_length.Tie as tie
+use Rattle.outcomes.proofs.stated_length.Statement.{statement}
+use Rattle.outcomes.proofs.stated_length.Tie as tie
 
 returns : tie.Need-returns
 unfolding statedLength
