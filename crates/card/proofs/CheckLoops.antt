@@ -11,11 +11,11 @@ use lib.Seq.{getD-set-same, getD-set-other}
 use Rattle.bits.proofs.Cases.{same-or-not}
 use Rattle.bits.proofs.Lists.{zeros-at, snoc-last, snoc-other}
 use Rattle.orthogonal.specs.ErrorMasks.{errorsBy, judgeBy}
-use Rattle.orthogonal.specs.declared.Judged.{Judged}
+use Rattle.orthogonal.specs.Judgements.{CheckJudged}
 use Rattle.card.specs.Refusals.{numberOf}
 use Rattle.card.specs.Reading.{byteField, standingMask, judge}
 use Rattle.card.specs.Reading.Field.{value}
-use Rattle.card.specs.Parts.{judgementNumber, PartOutcome, refusedPart}
+use Rattle.card.specs.Parts.{checkNumber, PartOutcome, refusedPart}
 use Rattle.code.specs.declared.Card.{Card}
 use Rattle.card.specs.declared.Refusal.{Refusal}
 use Rattle.card.specs.declared.Verdict.{Verdict}
@@ -116,16 +116,16 @@ place-of v l = place (v .stream-lt) (v .limits .k-most) (v .check-lt) (v .count-
 -- a check whose masks are all read is judged as the definition has it
 module _ {bs : List ℕ} {c : Card} {r : PartOutcome} {i count : ℕ} {counts : List ℕ} {q at₀ : ℕ} {touched : List ℕ} {verdict : Verdict} {checks masks : List ℕ} {rest at j : ℕ}
     (v : AtMasks bs c r i count counts q at₀ touched verdict checks masks rest at j) (whole : c .p ≤ j)
-    {errors : List ℕ} {judged : Judged} (es : errors ≡ errorsBy (c .generators) masks (c .k) (c .p) (c .m)) (ej : judged ≡ judgeBy errors touched i) where
+    {errors : List ℕ} {judged : CheckJudged} (es : errors ≡ errorsBy (c .generators) masks (c .k) (c .p) (c .m)) (ej : judged ≡ judgeBy errors touched i) where
   all-seen : length (v .seen) ≡ c .p
   all-seen = v .seen-are .many ∙ le-antisymm (v .mask-most) whole
 
-  pub judged-number : judge c i (v .earlier) (v .seen) ≡ judgementNumber (judged .judgement)
+  pub judged-number : judge c i (v .earlier) (v .seen) ≡ checkNumber (judged .outcome)
   judged-number =
       judged-same c (v .limits .n-most) (v .limits .k-most) (v .limits .m-most) (v .seen) masks all-seen (v .seen-are .within) (v .seen-are .same) i (v .stream-lt) (v .earlier) touched
       (v .union) es ej
 
-  pub judged-errors : judgementNumber (judged .judgement) ≡ 0 → Union c i (v .seen ∷ v .earlier) (judged .touched)
+  pub judged-errors : checkNumber (judged .outcome) ≡ 0 → Union c i (v .seen ∷ v .earlier) (judged .touched)
   judged-errors =
       judged-union c (v .limits .n-most) (v .limits .k-most) (v .limits .m-most) (v .seen) masks all-seen (v .seen-are .within) (v .seen-are .same) i (v .stream-lt) (v .earlier) touched
       (v .union) es ej
@@ -218,8 +218,8 @@ module _ {bs : List ℕ} {c : Card} {r : PartOutcome} {verdict : Verdict} {count
           same = sym (check-turn bs c i count q (v .earlier) counts place (v .seen) j checks rest at l e) ∙ v .same;
         }
 
-    pub checks-next : c .p ≤ j → {errors : List ℕ} {judged : Judged} → errors ≡ errorsBy (c .generators) masks (c .k) (c .p) (c .m) → judged ≡ judgeBy errors touched i
-        → judgementNumber (judged .judgement) ≡ 0 → AtChecks bs c r i count counts verdict checks (judged .touched) at (q + 1)
+    pub checks-next : c .p ≤ j → {errors : List ℕ} {judged : CheckJudged} → errors ≡ errorsBy (c .generators) masks (c .k) (c .p) (c .m) → judged ≡ judgeBy errors touched i
+        → checkNumber (judged .outcome) ≡ 0 → AtChecks bs c r i count counts verdict checks (judged .touched) at (q + 1)
     checks-next whole es ej z =
         record {
           limits = v .limits;
@@ -248,7 +248,7 @@ pub tables-broken : (c : Card) {v : Verdict} (l x : List ℕ) (at : ℕ) {f : Re
     → leftTables c v l x at ≡ r
 tables-broken c l x at e g = rw e g
 
--- .. at a check that fails: f is why it is refused
-pub tables-failed : (c : Card) {v : Verdict} (l x : List ℕ) (at : ℕ) {f g : Refusal} {o : ℕ} {r : PartOutcome} → v ≡ Refused f o → f ≡ g → refusedPart (numberOf g) o ≡ r
+-- .. at a check that fails: f is the refusal of its number
+pub tables-failed : (c : Card) {v : Verdict} (l x : List ℕ) (at : ℕ) {f : Refusal} {n o : ℕ} {r : PartOutcome} → v ≡ Refused f o → numberOf f ≡ n → refusedPart n o ≡ r
     → leftTables c v l x at ≡ r
 tables-failed c l x at e q h = rw (e, q) h

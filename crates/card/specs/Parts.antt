@@ -11,13 +11,9 @@ use Rattle.card.specs.Fields.{Head, Stream, storeRows, emptyCard, codeOf
 use Rattle.card.specs.Reading.{Field, Read}
 use Rattle.card.specs.Reading.Field.{value, bad}
 use Rattle.card.specs.Reading.Read.{got, fault}
-use Rattle.orthogonal.specs.declared.Failure.{Failure}
-use Rattle.orthogonal.specs.declared.Failure.the-variants as Failures
-use Rattle.orthogonal.specs.declared.Judgement.{Judgement}
-use Rattle.orthogonal.specs.declared.Judgement.the-variants.{Stands, Fails}
+use Rattle.orthogonal.specs.Judgements.{CheckOutcome}
+use Rattle.orthogonal.specs.Judgements.CheckOutcome.{stands, fails}
 use Rattle.code.specs.declared.Card.{Card}
-use Rattle.card.specs.declared.Refusal.{Refusal}
-use Rattle.card.specs.declared.Refusal.the-variants.{OwnDigitUntouched, ErrorTouchedBefore}
 use Rattle.card.specs.declared.Verdict.{Verdict}
 use Rattle.card.specs.declared.Verdict.the-variants.{Accepted, Refused}
 use Rattle.card.specs.declared.fields.FieldRead.{FieldRead}
@@ -37,15 +33,10 @@ verdictOf (Fault refusal offset) = Refused refusal offset
 
 -- ---- checks
 
--- why a check that fails is refused
-abbrev pub refusalOf : Failure → Refusal
-refusalOf Failures.OwnDigitUntouched = OwnDigitUntouched
-refusalOf Failures.ErrorTouchedBefore = ErrorTouchedBefore
-
--- the refusal's number, 0 for none
-abbrev pub judgementNumber : Judgement → ℕ
-judgementNumber Stands = 0
-judgementNumber (Fails failure) = numberOf (refusalOf failure)
+-- the number of the refusal, as `judge` has it: 0 for none
+abbrev pub checkNumber : CheckOutcome → ℕ
+checkNumber stands = 0
+checkNumber (fails n) = n
 
 -- ---- parts
 

@@ -5,13 +5,15 @@ use mathlib.Core.Logic.{⊎-elim}
 use native.Mathlib.Omega.{arith}
 use lib.Pow.{pow-pos}
 use denote.Ref.{now}
+use Rattle.orthogonal.specs.Judgements.{judgementOf}
+use Rattle.orthogonal.specs.declared.Judgement.{Judgement}
+use Rattle.orthogonal.proofs.ErrorMasks.{failure-least}
 use Rattle.card.specs.Outcome.{outcomeOf}
 use Rattle.card.specs.Fields.{emptyCard}
 use Rattle.card.specs.Reading.{readStreams}
-use Rattle.card.specs.Parts.{refusalOf, judgementNumber, verdictOf, partOf, checksPart}
+use Rattle.card.specs.Parts.{checkNumber, verdictOf, partOf, checksPart}
 use Rattle.card.specs.declared.Verdict.{Verdict}
 use Rattle.card.proofs.FieldValues.{has-value, has-fault, byte-is, standing-inside}
-use Rattle.card.proofs.Numbers.{number-least}
 use Rattle.card.proofs.HeadStages.{top-map, map-limit}
 use Rattle.card.proofs.RestChecks.{streams-start, streams-end, streams-fault, checks-fault, check-fault, check-fails}
 use Rattle.card.proofs.CheckLoops.{AtStreams, AtChecks, AtMasks, place-of, judged-number, checks-begin, masks-begin, masks-next, checks-next, streams-next, leftTables, tables-ended, tables-broken, tables-failed}
@@ -204,7 +206,7 @@ loop-less c = omega arith
 loop-again : tie.Need-loop-again Inv-loop2 μ-loop2 Inv-loop μ-loop Inv-card μ-card
 loop-again c =
     checks-next (c .before .before .before .before .before .before .before .before .loop2 .inv) (c .before .before .before .before .before .before .before .loop2-test .left)
-    (c .before .before .before .before .errors-by .ensures) (c .before .before .before .judge .ensures) (ap judgementNumber (c .before .enum-told4 .given .1))
+    (c .before .before .before .before .errors-by .ensures) (c .before .before .before .judge .ensures) (ap (λ (x : Judgement). checkNumber (judgementOf x)) (c .before .enum-told4 .given .1))
 
 add-i : tie.Need-add-i Inv-loop2 μ-loop2 Inv-loop μ-loop Inv-card μ-card
 add-i c = omega arith
@@ -239,9 +241,9 @@ settled c =
     (λ w.
     let t = w .11 .inv in
     let e = judged-number t (w .12 .left) (w .15 .ensures) (w .16 .ensures)
-    ∙ ap judgementNumber (w .18 .given .1) in
+    ∙ ap (λ (x : Judgement). checkNumber (judgementOf x)) (w .18 .given .1) in
     tables-failed _ _ _ _ (w .21) (w .20 .ensures)
-    (sym (check-fails _ _ _ _ _ _ _ _ _ _ _ _ _ (w .12 .left) e (λ z. let l = number-least (refusalOf (w .18 .given .0 .0)) in omega arith)) ∙ t .same)))))
+    (sym (check-fails _ _ _ _ _ _ _ _ _ _ _ _ _ (w .12 .left) e (λ z. let l = failure-least (w .18 .given .0 .0) in omega arith)) ∙ t .same)))))
     (c .card-test .came)
 
 enum-told-5 : tie.Need-enum-told-5 Inv-loop2 μ-loop2 Inv-loop μ-loop Inv-card μ-card
