@@ -43,7 +43,8 @@ pub record AtStreams (bs : List ℕ) (c : Card) (r : PartOutcome) (verdict : Ver
   pub same : restStreams bs c i counts checks at ≡ r
 
 -- before check q of stream i, whose earlier checks touch the errors `touched`
-pub record AtChecks (bs : List ℕ) (c : Card) (r : PartOutcome) (i count : ℕ) (counts : List ℕ) (verdict : Verdict) (checks touched : List ℕ) (at q : ℕ) : Type 0 where
+pub record AtChecks (bs : List ℕ) (c : Card) (r : PartOutcome) (i count : ℕ) (counts : List ℕ)
+    (verdict : Verdict) (checks touched : List ℕ) (at q : ℕ) : Type 0 where
   pub limits : Limits c
   pub stream-lt : i < c .k
   pub check-most : q ≤ count
@@ -63,7 +64,8 @@ pub record Seen (m : ℕ) (masks : List ℕ) (j : ℕ) (seen : List ℕ) : Type 
   pub same : (n : ℕ) → getD masks n 0 ≡ getD seen n 0
 
 -- before mask j of check q, whose map stands at place
-pub record AtMasks (bs : List ℕ) (c : Card) (r : PartOutcome) (i count : ℕ) (counts : List ℕ) (q place : ℕ) (touched : List ℕ) (verdict : Verdict) (checks masks : List ℕ) (rest at j : ℕ) : Type 0 where
+pub record AtMasks (bs : List ℕ) (c : Card) (r : PartOutcome) (i count : ℕ) (counts : List ℕ) (q place : ℕ) (touched : List ℕ)
+    (verdict : Verdict) (checks masks : List ℕ) (rest at j : ℕ) : Type 0 where
   pub limits : Limits c
   pub stream-lt : i < c .k
   pub check-lt : q < count
@@ -122,13 +124,15 @@ module _ {bs : List ℕ} {c : Card} {r : PartOutcome} {i count : ℕ} {counts : 
 
   pub judged-number : judge c i (v .earlier) (v .seen) ≡ checkNumber (judged .outcome)
   judged-number =
-      judged-same c (v .limits .n-most) (v .limits .k-most) (v .limits .m-most) (v .seen) masks all-seen (v .seen-are .within) (v .seen-are .same) i (v .stream-lt) (v .earlier) touched
-      (v .union) es ej
+      let l = v .limits in
+      let s = v .seen-are in
+      judged-same c (l .n-most) (l .k-most) (l .m-most) (v .seen) masks all-seen (s .within) (s .same) i (v .stream-lt) (v .earlier) touched (v .union) es ej
 
   pub judged-errors : checkNumber (judged .outcome) ≡ 0 → Union c i (v .seen ∷ v .earlier) (judged .touched)
   judged-errors =
-      judged-union c (v .limits .n-most) (v .limits .k-most) (v .limits .m-most) (v .seen) masks all-seen (v .seen-are .within) (v .seen-are .same) i (v .stream-lt) (v .earlier) touched
-      (v .union) es ej
+      let l = v .limits in
+      let s = v .seen-are in
+      judged-union c (l .n-most) (l .k-most) (l .m-most) (v .seen) masks all-seen (s .within) (s .same) i (v .stream-lt) (v .earlier) touched (v .union) es ej
 
 -- one mask more
 pub seen-more : {m : ℕ} {masks : List ℕ} {j : ℕ} {seen : List ℕ} {v : ℕ} → j < length masks → v < 2 ^ (m + 1) → Seen m masks j seen
