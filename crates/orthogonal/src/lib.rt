@@ -30,7 +30,9 @@ fn touch_by(generators: &[u32; 32], masks: &[u32; 8], p: usize, s: usize, b: usi
 {
     let mut sum: u32 = 0;
     for j in 0..p {
-        sum = sum ^ (bits::word(masks, j) >> b & bits::word(generators, s * 8 + j));
+        let mask = bits::word(masks, j);
+        let generator = bits::word(generators, s * 8 + j);
+        sum = sum ^ (mask >> b & generator);
     }
     u32::count_ones(sum) % 2
 }
