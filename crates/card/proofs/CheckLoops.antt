@@ -11,11 +11,11 @@ use lib.Seq.{getD-set-same, getD-set-other}
 use Rattle.bits.proofs.Cases.{same-or-not}
 use Rattle.bits.proofs.Lists.{zeros-at, snoc-last, snoc-other}
 use Rattle.orthogonal.specs.ErrorMasks.{errorsBy, judgeBy}
-use Rattle.orthogonal.specs.declared.Judged.{Judged}
+use Rattle.orthogonal.specs.Judgements.{CheckJudged}
 use Rattle.card.specs.Refusals.{numberOf}
 use Rattle.card.specs.Reading.{byteField, standingMask, judge}
 use Rattle.card.specs.Reading.Field.{value}
-use Rattle.card.specs.Parts.{judgementNumber, PartOutcome, refusedPart}
+use Rattle.card.specs.Parts.{checkNumber, PartOutcome, refusedPart}
 use Rattle.code.specs.declared.Card.{Card}
 use Rattle.card.specs.declared.Refusal.{Refusal}
 use Rattle.card.specs.declared.Verdict.{Verdict}
@@ -43,7 +43,8 @@ pub record AtStreams (bs : List ℕ) (c : Card) (r : PartOutcome) (verdict : Ver
   pub same : restStreams bs c i counts checks at ≡ r
 
 -- before check q of stream i, whose earlier checks touch the errors `touched`
-pub record AtChecks (bs : List ℕ) (c : Card) (r : PartOutcome) (i count : ℕ) (counts : List ℕ) (verdict : Verdict) (checks touched : List ℕ) (at q : ℕ) : Type 0 where
+pub record AtChecks (bs : List ℕ) (c : Card) (r : PartOutcome) (i count : ℕ) (counts : List ℕ)
+    (verdict : Verdict) (checks touched : List ℕ) (at q : ℕ) : Type 0 where
   pub limits : Limits c
   pub stream-lt : i < c .k
   pub check-most : q ≤ count
@@ -63,7 +64,8 @@ pub record Seen (m : ℕ) (masks : List ℕ) (j : ℕ) (seen : List ℕ) : Type 
   pub same : (n : ℕ) → getD masks n 0 ≡ getD seen n 0
 
 -- before mask j of check q, whose map stands at place
-pub record AtMasks (bs : List ℕ) (c : Card) (r : PartOutcome) (i count : ℕ) (counts : List ℕ) (q place : ℕ) (touched : List ℕ) (verdict : Verdict) (checks masks : List ℕ) (rest at j : ℕ) : Type 0 where
+pub record AtMasks (bs : List ℕ) (c : Card) (r : PartOutcome) (i count : ℕ) (counts : List ℕ) (q place : ℕ) (touched : List ℕ)
+    (verdict : Verdict) (checks masks : List ℕ) (rest at j : ℕ) : Type 0 where
   pub limits : Limits c
   pub stream-lt : i < c .k
   pub check-lt : q < count
@@ -116,19 +118,21 @@ place-of v l = place (v .stream-lt) (v .limits .k-most) (v .check-lt) (v .count-
 -- a check whose masks are all read is judged as the definition has it
 module _ {bs : List ℕ} {c : Card} {r : PartOutcome} {i count : ℕ} {counts : List ℕ} {q at₀ : ℕ} {touched : List ℕ} {verdict : Verdict} {checks masks : List ℕ} {rest at j : ℕ}
     (v : AtMasks bs c r i count counts q at₀ touched verdict checks masks rest at j) (whole : c .p ≤ j)
-    {errors : List ℕ} {judged : Judged} (es : errors ≡ errorsBy (c .generators) masks (c .k) (c .p) (c .m)) (ej : judged ≡ judgeBy errors touched i) where
+    {errors : List ℕ} {judged : CheckJudged} (es : errors ≡ errorsBy (c .generators) masks (c .k) (c .p) (c .m)) (ej : judged ≡ judgeBy errors touched i) where
   all-seen : length (v .seen) ≡ c .p
   all-seen = v .seen-are .many ∙ le-antisymm (v .mask-most) whole
 
-  pub judged-number : judge c i (v .earlier) (v .seen) ≡ judgementNumber (judged .judgement)
+  pub judged-number : judge c i (v .earlier) (v .seen) ≡ checkNumber (judged .outcome)
   judged-number =
-      judged-same c (v .limits .n-most) (v .limits .k-most) (v .limits .m-most) (v .seen) masks all-seen (v .seen-are .within) (v .seen-are .same) i (v .stream-lt) (v .earlier) touched
-      (v .union) es ej
+      let l = v .limits in
+      let s = v .seen-are in
+      judged-same c (l .n-most) (l .k-most) (l .m-most) (v .seen) masks all-seen (s .within) (s .same) i (v .stream-lt) (v .earlier) touched (v .union) es ej
 
-  pub judged-errors : judgementNumber (judged .judgement) ≡ 0 → Union c i (v .seen ∷ v .earlier) (judged .touched)
+  pub judged-errors : checkNumber (judged .outcome) ≡ 0 → Union c i (v .seen ∷ v .earlier) (judged .touched)
   judged-errors =
-      judged-union c (v .limits .n-most) (v .limits .k-most) (v .limits .m-most) (v .seen) masks all-seen (v .seen-are .within) (v .seen-are .same) i (v .stream-lt) (v .earlier) touched
-      (v .union) es ej
+      let l = v .limits in
+      let s = v .seen-are in
+      judged-union c (l .n-most) (l .k-most) (l .m-most) (v .seen) masks all-seen (s .within) (s .same) i (v .stream-lt) (v .earlier) touched (v .union) es ej
 
 -- one mask more
 pub seen-more : {m : ℕ} {masks : List ℕ} {j : ℕ} {seen : List ℕ} {v : ℕ} → j < length masks → v < 2 ^ (m + 1) → Seen m masks j seen
@@ -218,8 +222,8 @@ module _ {bs : List ℕ} {c : Card} {r : PartOutcome} {verdict : Verdict} {count
           same = sym (check-turn bs c i count q (v .earlier) counts place (v .seen) j checks rest at l e) ∙ v .same;
         }
 
-    pub checks-next : c .p ≤ j → {errors : List ℕ} {judged : Judged} → errors ≡ errorsBy (c .generators) masks (c .k) (c .p) (c .m) → judged ≡ judgeBy errors touched i
-        → judgementNumber (judged .judgement) ≡ 0 → AtChecks bs c r i count counts verdict checks (judged .touched) at (q + 1)
+    pub checks-next : c .p ≤ j → {errors : List ℕ} {judged : CheckJudged} → errors ≡ errorsBy (c .generators) masks (c .k) (c .p) (c .m) → judged ≡ judgeBy errors touched i
+        → checkNumber (judged .outcome) ≡ 0 → AtChecks bs c r i count counts verdict checks (judged .touched) at (q + 1)
     checks-next whole es ej z =
         record {
           limits = v .limits;
@@ -248,7 +252,7 @@ pub tables-broken : (c : Card) {v : Verdict} (l x : List ℕ) (at : ℕ) {f : Re
     → leftTables c v l x at ≡ r
 tables-broken c l x at e g = rw e g
 
--- .. at a check that fails: f is why it is refused
-pub tables-failed : (c : Card) {v : Verdict} (l x : List ℕ) (at : ℕ) {f g : Refusal} {o : ℕ} {r : PartOutcome} → v ≡ Refused f o → f ≡ g → refusedPart (numberOf g) o ≡ r
+-- .. at a check that fails: f is the refusal of its number
+pub tables-failed : (c : Card) {v : Verdict} (l x : List ℕ) (at : ℕ) {f : Refusal} {n o : ℕ} {r : PartOutcome} → v ≡ Refused f o → numberOf f ≡ n → refusedPart n o ≡ r
     → leftTables c v l x at ≡ r
 tables-failed c l x at e q h = rw (e, q) h

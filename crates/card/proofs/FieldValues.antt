@@ -1,6 +1,7 @@
 -- What is known where a field has a value.
-use Prim.Native.Nat.{ℕ, _+_, _*_, _/_, _^_, _≤_, _<_}
+use Prim.Native.Nat.{ℕ, _+_, _-_, _*_, _/_, _^_, _≤_, _<_}
 use mathlib.Core.Path.{_≡_, sym, ap, _∙_}
+use mathlib.Core.Bool.{true, false}
 use mathlib.Core.List.{List}
 use mathlib.Core.Logic.{⊎-elim}
 use native.Mathlib.Nat.{div-lt-iff-lt-mul, pow-succ'}
@@ -9,7 +10,7 @@ use native.Mathlib.Omega.{arith}
 use lib.ListN.{length, getD}
 use lib.Dec.{leb, ltb, eqb}
 use lib.Pow.{pow-pos}
-use borrow.Author.Tests.{ltb-true, leb-true, eqb-true, eqb-false}
+use borrow.Author.Tests.{lt-leb, le-leb, ltb-true, leb-true, eqb-true, eqb-false}
 use Rattle.bits.proofs.Cases.{picked}
 use Rattle.card.specs.Reading.{Field, byteField, kField, nField, mapField, maskField, wordAt, standingMask}
 use Rattle.card.specs.Reading.Field.{value, bad}
@@ -24,6 +25,13 @@ not-value e = let z : _≡_ {A = ℕ} 0 1 = cc in absurd (omega arith)
 
 pub value-same : {x v : ℕ} → value x ≡ value v → x ≡ v
 value-same e = cc
+
+-- a field of w bytes ends within the bytes, or is cut short, as the program tests it
+pub ends-inside : {at len w : ℕ} → at ≤ len → w ≤ len - at → leb (at + w) len ≡ true
+ends-inside {at} {len} {w} h l = le-leb (at + w) len (omega arith)
+
+pub ends-beyond : {at len w : ℕ} → at ≤ len → len - at < w → leb (at + w) len ≡ false
+ends-beyond {at} {len} {w} h l = lt-leb (at + w) len (omega arith)
 
 pub record ByteIs (bs : List ℕ) (at low high v : ℕ) : Type 0 where
   pub inside : at < length bs

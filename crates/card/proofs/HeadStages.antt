@@ -12,61 +12,57 @@ use Rattle.card.specs.Outcome.Outcome.{accepted}
 use Rattle.card.specs.Fields.{emptyCard, storeRows}
 use Rattle.card.specs.Reading.{Field, byteField, kField, nField, readHead}
 use Rattle.card.specs.Reading.Field.{value, bad}
-use Rattle.card.specs.Parts.{verdictOf, partOf, refusedPart, headPart}
+use Rattle.card.specs.Parts.{verdictOf, partOf, refusedPart, Opened, Sized, headPart}
 use Rattle.card.specs.declared.Refusal.{Refusal}
-use Rattle.card.specs.declared.Verdict.{Verdict}
 use Rattle.card.specs.declared.fields.FieldRead.{FieldRead}
 use Rattle.card.specs.declared.fields.FieldRead.the-variants.{Fault}
 use Rattle.card.specs.declared.parts.Part.{Part}
 
 -- a fault handed on
-pub refused-by : {r : Part} {v : Verdict} {f : FieldRead} {x : Refusal} {o : ℕ} → r ≡ record { verdict = v; at = 0; card = emptyCard }
-    → v ≡ verdictOf f → f ≡ Fault x o → partOf r ≡ refusedPart (numberOf x) o
-refused-by {v = v} e q w =
-    ap partOf e ∙ ap (λ (u : Verdict). record { outcome = outcomeOf u; at = 0; card = emptyCard }) (q ∙ ap verdictOf w)
+pub refused-by : {r : Part} {f : FieldRead} {x : Refusal} {o : ℕ} → r ≡ record { verdict = verdictOf f; at = 0; card = emptyCard } → f ≡ Fault x o
+    → partOf r ≡ refusedPart (numberOf x) o
+refused-by e w = ap partOf e ∙ ap (λ (f : FieldRead). record { outcome = outcomeOf (verdictOf f); at = 0; card = emptyCard }) w
 
 -- ---- the head, field by field
-module _ (bs : List ℕ) where
-  pub head-1 : {n o : ℕ} → byteField bs 0 0 3 5 ≡ bad n o → refusedPart n o ≡ headPart (readHead bs)
+module _ (bs : List ℕ) {n o : ℕ} where
+  pub map-faulty : byteField bs 0 0 3 5 ≡ bad n o → refusedPart n o ≡ headPart (readHead bs)
   unfolding readHead
-  head-1 e = rw e
+  map-faulty e = rw e
 
-  module _ {map : ℕ} (e₁ : byteField bs 0 0 3 5 ≡ value map) where
-    pub head-2 : {n o : ℕ} → byteField bs 1 0 255 1 ≡ bad n o → refusedPart n o ≡ headPart (readHead bs)
-    unfolding readHead
-    head-2 e = rw (e₁, e)
+  pub number-faulty : {map : ℕ} → byteField bs 0 0 3 5 ≡ value map → byteField bs 1 0 255 1 ≡ bad n o → refusedPart n o ≡ headPart (readHead bs)
+  unfolding readHead
+  number-faulty e₁ e = rw (e₁, e)
 
-    module _ {number : ℕ} (e₂ : byteField bs 1 0 255 1 ≡ value number) where
-      pub head-3 : {n o : ℕ} → kField bs (map % 2) ≡ bad n o → refusedPart n o ≡ headPart (readHead bs)
-      unfolding readHead
-      head-3 e = rw (e₁, e₂, e)
+module _ {bs : List ℕ} {map number : ℕ} (h : Opened bs map number) {n o : ℕ} where
+  pub k-faulty : kField bs (map % 2) ≡ bad n o → refusedPart n o ≡ headPart (readHead bs)
+  unfolding readHead
+  k-faulty e = rw (h .map-read, h .number-read, e)
 
-      module _ {k : ℕ} (e₃ : kField bs (map % 2) ≡ value k) where
-        pub head-4 : {n o : ℕ} → nField bs (2 + map % 2) (map / 2) k ≡ bad n o → refusedPart n o ≡ headPart (readHead bs)
-        unfolding readHead
-        head-4 e = rw (e₁, e₂, e₃, e)
+  pub n-faulty : {k : ℕ} → kField bs (map % 2) ≡ value k → nField bs (2 + map % 2) (map / 2) k ≡ bad n o → refusedPart n o ≡ headPart (readHead bs)
+  unfolding readHead
+  n-faulty e₁ e = rw (h .map-read, h .number-read, e₁, e)
 
-        module _ {n : ℕ} (e₄ : nField bs (2 + map % 2) (map / 2) k ≡ value n) where
-          pub head-5 : {n o : ℕ} → byteField bs (2 + map % 2 + map / 2) 0 31 4 ≡ bad n o → refusedPart n o ≡ headPart (readHead bs)
-          unfolding readHead
-          head-5 e = rw (e₁, e₂, e₃, e₄, e)
+module _ {bs : List ℕ} {map number k n : ℕ} (h : Sized bs map number k n) where
+  pub m-faulty : {x o : ℕ} → byteField bs (2 + map % 2 + map / 2) 0 31 4 ≡ bad x o → refusedPart x o ≡ headPart (readHead bs)
+  unfolding readHead
+  m-faulty e = rw (h .opened .map-read, h .opened .number-read, h .k-read, h .n-read, e)
 
-          pub head-6 : {m : ℕ} → byteField bs (2 + map % 2 + map / 2) 0 31 4 ≡ value m →
-              record {
-                outcome = accepted;
-                at = 2 + map % 2 + map / 2 + 1;
-                card = record {
-                  number = number;
-                  k = k;
-                  p = n - k;
-                  m = m;
-                  generators = replicate 32 0;
-                  counts = replicate 4 0;
-                  checks = replicate 512 0;
-                };
-              } ≡ headPart (readHead bs)
-          unfolding readHead storeRows
-          head-6 e = rw (e₁, e₂, e₃, e₄, e)
+  pub head-whole : {m : ℕ} → byteField bs (2 + map % 2 + map / 2) 0 31 4 ≡ value m →
+      record {
+        outcome = accepted;
+        at = 2 + map % 2 + map / 2 + 1;
+        card = record {
+          number = number;
+          k = k;
+          p = n - k;
+          m = m;
+          generators = replicate 32 0;
+          counts = replicate 4 0;
+          checks = replicate 512 0;
+        };
+      } ≡ headPart (readHead bs)
+  unfolding readHead storeRows
+  head-whole e = rw (h .opened .map-read, h .opened .number-read, h .k-read, h .n-read, e)
 
 -- ---- ranges
 -- the bits of a generator map

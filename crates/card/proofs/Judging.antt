@@ -1,11 +1,13 @@
 -- The judgement by masks is the definition's: the masks hold the errors that the checks touch, digit by digit.
 use Prim.Native.Nat.{ℕ, suc, _+_, _-_, _*_, _/_, _%_, _^_, _≤_, _<_, max}
 use mathlib.Core.Path.{_≡_, sym, ap, subst, _∙_, fun-ext}
+use mathlib.Core.Bool.{true}
 use mathlib.Core.List.{List, [], _∷_}
 use mathlib.Core.Logic.{_⊎_, inl, inr, ⊎-elim}
 use native.Mathlib.Numerals.{add-one}
 use native.Mathlib.Omega.{arith}
 use lib.ListN.{length, getD, replicate, List·getD-eq-default}
+use lib.Dec.{eqb}
 use borrow.Author.Tests.{eq-eqb, ne-eqb, lt-ltb, le-ltb}
 use Rattle.bits.specs.Sums.{sumBelow, back}
 use Rattle.bits.specs.Digits.{bit, dot}
@@ -18,9 +20,9 @@ use Rattle.bits.proofs.Words.{dot-shifted}
 use Rattle.code.specs.Code.{generator}
 use Rattle.code.specs.Checks.{touchesInfo, touchesBy}
 use Rattle.card.specs.Reading.{maskAt, touchedBy, clashes, judge}
-use Rattle.card.specs.Parts.{judgementNumber}
+use Rattle.card.specs.Parts.{checkNumber}
 use Rattle.orthogonal.specs.ErrorMasks.{touchBy, errorMask, errorsBy, others, shared, joined, judgeStream, judgeBy}
-use Rattle.orthogonal.specs.declared.Judged.{Judged}
+use Rattle.orthogonal.specs.Judgements.{CheckJudged}
 use Rattle.code.specs.declared.Card.{Card}
 use Rattle.code.proofs.Touches.{touches-by-le}
 use Rattle.card.proofs.Clashes.{no-clash, clash-none}
@@ -157,41 +159,50 @@ module _ (c : Card) (n-most : c .k + c .p ≤ 8) (k-most : c .k ≤ 4) (m-most :
                 omega arith
 
       -- the judgement
-      judged-number : judge c i earlier vs ≡ judgementNumber (judgeStream errs touched i .judgement)
+      own-untouched : (getD errs i 0 % 2 ≡ 1 → ⊥) → judge c i earlier vs ≡ checkNumber (judgeStream errs touched i .outcome)
       unfolding judge judgeStream
-      judged-number = whole (same-or-not (getD errs i 0 % 2) 1)
-        where
-          whole : (getD errs i 0 % 2 ≡ 1) ⊎ (getD errs i 0 % 2 ≡ 1 → ⊥) → judge c i earlier vs ≡ judgementNumber (judgeStream errs touched i .judgement)
-          whole (inr n) = rw (ne-eqb _ 1 n, ne-eqb (touchesBy c (maskAt vs) 0 i) 1 (λ e. n (own-is i i-most ∙ e)))
-          whole (inl o) = stands o (same-or-not (shared touched (others errs i)) 0)
-            where
-              stands : getD errs i 0 % 2 ≡ 1 → (shared touched (others errs i) ≡ 0) ⊎ (shared touched (others errs i) ≡ 0 → ⊥) → judge c i earlier vs ≡ judgementNumber (judgeStream errs touched i .judgement)
-              stands o (inl z) =
-                  rw (eq-eqb (getD errs i 0 % 2) 1 o, eq-eqb (shared touched (others errs i)) 0 z, eq-eqb (touchesBy c (maskAt vs) 0 i) 1 (sym (own-is i i-most) ∙ o), eq-eqb (clashes c i earlier vs) 0 (none-clash o z))
-              stands o (inr z) =
-                  rw (eq-eqb (getD errs i 0 % 2) 1 o, ne-eqb (shared touched (others errs i)) 0 z, eq-eqb (touchesBy c (maskAt vs) 0 i) 1 (sym (own-is i i-most) ∙ o), ne-eqb (clashes c i earlier vs) 0 (λ e. z (none-shared o e)))
+      own-untouched n = rw (ne-eqb _ 1 n, ne-eqb (touchesBy c (maskAt vs) 0 i) 1 (λ e. n (own-is i i-most ∙ e)))
 
-      judged-touched : judgementNumber (judgeStream errs touched i .judgement) ≡ 0 → Union c i (vs ∷ earlier) (judgeStream errs touched i .touched)
+      module _ (o : getD errs i 0 % 2 ≡ 1) where
+        own-touched : eqb (touchesBy c (maskAt vs) 0 i) 1 ≡ true
+        own-touched = eq-eqb _ 1 (sym (own-is i i-most) ∙ o)
+
+        none-before : shared touched (others errs i) ≡ 0 → judge c i earlier vs ≡ checkNumber (judgeStream errs touched i .outcome)
+        unfolding judge judgeStream
+        none-before z = rw (eq-eqb _ 1 o, eq-eqb _ 0 z, own-touched, eq-eqb (clashes c i earlier vs) 0 (none-clash o z))
+
+        some-before : (shared touched (others errs i) ≡ 0 → ⊥) → judge c i earlier vs ≡ checkNumber (judgeStream errs touched i .outcome)
+        unfolding judge judgeStream
+        some-before z = rw (eq-eqb _ 1 o, ne-eqb _ 0 z, own-touched, ne-eqb (clashes c i earlier vs) 0 (λ e. z (none-shared o e)))
+
+      judged-number : judge c i earlier vs ≡ checkNumber (judgeStream errs touched i .outcome)
+      judged-number =
+          ⊎-elim (λ o. ⊎-elim (none-before o) (some-before o) (same-or-not (shared touched (others errs i)) 0)) own-untouched (same-or-not (getD errs i 0 % 2) 1)
+
+      judged-touched : checkNumber (judgeStream errs touched i .outcome) ≡ 0 → Union c i (vs ∷ earlier) (judgeStream errs touched i .touched)
       unfolding judgeStream
-      judged-touched e = ⊎-elim (λ o. stands o (same-or-not (shared touched (others errs i)) 0)) (λ n. absurd (fails n)) (same-or-not (getD errs i 0 % 2) 1)
+      judged-touched e =
+          ⊎-elim (λ o. ⊎-elim (stands o) (λ z. absurd (clashing o z)) (same-or-not (shared touched (others errs i)) 0)) (λ n. absurd (untouched n)) (same-or-not (getD errs i 0 % 2) 1)
         where
-          fails : (getD errs i 0 % 2 ≡ 1 → ⊥) → ⊥
-          fails n = let z : _≡_ {A = ℕ} 8 0 = rw (ne-eqb _ 1 n) at e in omega arith
+          untouched : (getD errs i 0 % 2 ≡ 1 → ⊥) → ⊥
+          untouched n = let z : _≡_ {A = ℕ} 8 0 = rw (ne-eqb _ 1 n) at e in omega arith
 
-          stands : getD errs i 0 % 2 ≡ 1 → (shared touched (others errs i) ≡ 0) ⊎ (shared touched (others errs i) ≡ 0 → ⊥) → Union c i (vs ∷ earlier) (judgeStream errs touched i .touched)
-          stands o (inl z) = rw (eq-eqb _ 1 o, eq-eqb _ 0 z) (union-more o)
-          stands o (inr z) = let w : _≡_ {A = ℕ} 9 0 = rw (eq-eqb _ 1 o, ne-eqb _ 0 z) at e in absurd (omega arith)
+          clashing : getD errs i 0 % 2 ≡ 1 → (shared touched (others errs i) ≡ 0 → ⊥) → ⊥
+          clashing o z = let w : _≡_ {A = ℕ} 9 0 = rw (eq-eqb _ 1 o, ne-eqb _ 0 z) at e in omega arith
+
+          stands : getD errs i 0 % 2 ≡ 1 → shared touched (others errs i) ≡ 0 → Union c i (vs ∷ earlier) (judgeStream errs touched i .touched)
+          stands o z = rw (eq-eqb _ 1 o, eq-eqb _ 0 z) (union-more o)
 
       -- .. as the program has it
-      module _ {errors : List ℕ} {j : Judged} (es : errors ≡ errorsBy (c .generators) masks (c .k) (c .p) (c .m)) (ej : j ≡ judgeBy errors touched i) where
+      module _ {errors : List ℕ} {j : CheckJudged} (es : errors ≡ errorsBy (c .generators) masks (c .k) (c .p) (c .m)) (ej : j ≡ judgeBy errors touched i) where
         by-masks : j ≡ judgeStream errs touched i
         unfolding errs
         by-masks = ej ∙ ap (λ (x : List ℕ). judgeBy x touched i) es ∙ judged-at _ touched i (omega arith)
 
-        pub judged-same : judge c i earlier vs ≡ judgementNumber (j .judgement)
-        judged-same = judged-number ∙ sym (ap (λ (x : Judged). judgementNumber (x .judgement)) by-masks)
+        pub judged-same : judge c i earlier vs ≡ checkNumber (j .outcome)
+        judged-same = judged-number ∙ sym (ap (λ (x : CheckJudged). checkNumber (x .outcome)) by-masks)
 
-        pub judged-union : judgementNumber (j .judgement) ≡ 0 → Union c i (vs ∷ earlier) (j .touched)
+        pub judged-union : checkNumber (j .outcome) ≡ 0 → Union c i (vs ∷ earlier) (j .touched)
         judged-union z =
-            subst (λ (x : Judged). Union c i (vs ∷ earlier) (x .touched)) (sym by-masks)
-            (judged-touched (sym (ap (λ (x : Judged). judgementNumber (x .judgement)) by-masks) ∙ z))
+            subst (λ (x : CheckJudged). Union c i (vs ∷ earlier) (x .touched)) (sym by-masks)
+            (judged-touched (sym (ap (λ (x : CheckJudged). checkNumber (x .outcome)) by-masks) ∙ z))

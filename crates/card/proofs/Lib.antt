@@ -1,5 +1,4 @@
 -- reading
-pub mod Numbers
 pub mod FieldValues
 pub mod ReadParts
 pub mod HeadStages

@@ -80,16 +80,19 @@ module _ (bs : List ℕ) (c : Card) where
     unfolding restChecks readChecks readCheck
     checks-fault checks at h e = rw (one-less count q h, e)
 
+    -- after check q, with the masks ws
+    abbrev checksAfter : List ℕ → List ℕ → ℕ → PartOutcome
+    checksAfter checks ws at =
+        after (λ cs at₁. restStreams (i + 1) counts (storeChecks i q (ws ∷ cs) checks) at₁) refusedPart (readChecks bs c i (count - (q + 1)) (ws ∷ earlier) at)
+
     after-judged : (place : ℕ) (checks vs : List ℕ) (at number : ℕ)
-        → after (λ ws at₁. after (λ cs at₂. restStreams (i + 1) counts (storeChecks i q (ws ∷ cs) checks) at₂) refusedPart (readChecks bs c i (count - (q + 1)) (ws ∷ earlier) at₁)) refusedPart
-        (judged vs place at number)
+        → after (checksAfter checks) refusedPart (judged vs place at number)
         ≡ cond (eqb number 0) (restChecks i count (q + 1) (vs ∷ earlier) counts (store (i * 128 + q * 8) vs checks) at) (refusedPart number place)
     unfolding restChecks storeChecks
     after-judged place checks vs at number = go (eqb number 0)
       where
         go : (b : Bool)
-            → after (λ (ws : List ℕ) at₁. after (λ cs at₂. restStreams (i + 1) counts (storeChecks i q (ws ∷ cs) checks) at₂) refusedPart (readChecks bs c i (count - (q + 1)) (ws ∷ earlier) at₁)) refusedPart
-            (cond b (got vs at) (fault number place))
+            → after (checksAfter checks) refusedPart (cond b (got vs at) (fault number place))
             ≡ cond b (restChecks i count (q + 1) (vs ∷ earlier) counts (store (i * 128 + q * 8) vs checks) at) (refusedPart number place)
         go true = refl
         go false = refl
@@ -99,8 +102,8 @@ module _ (bs : List ℕ) (c : Card) where
     unfolding restChecks restMasks restJudged readChecks readCheck
     checks-turn checks at {map} h e =
         rw (one-less count q h, e, sub-zero, add-zero)
-        (after-next (λ vs at₁. mapRead (λ cs. vs ∷ cs) (readChecks bs c i (count - (q + 1)) (vs ∷ earlier) at₁)) go refusedPart (next (readMasks bs (c .m) (c .p) map (at + 1)) each)
-        ∙ after-next each (λ vs at₁. after go refusedPart (mapRead (λ cs. vs ∷ cs) (readChecks bs c i (count - (q + 1)) (vs ∷ earlier) at₁))) refusedPart (readMasks bs (c .m) (c .p) map (at + 1))
+        (after-next more go refusedPart (next (readMasks bs (c .m) (c .p) map (at + 1)) each)
+        ∙ after-next each (λ vs at₁. after go refusedPart (more vs at₁)) refusedPart (readMasks bs (c .m) (c .p) map (at + 1))
         ∙ after-same refusedPart (readMasks bs (c .m) (c .p) map (at + 1))
         (λ vs at₁.
         after-same refusedPart (each vs at₁) (λ ws at₂. after-map (λ cs. ws ∷ cs) go refusedPart (readChecks bs c i (count - (q + 1)) (ws ∷ earlier) at₂))
@@ -108,6 +111,9 @@ module _ (bs : List ℕ) (c : Card) where
       where
         go : List (List ℕ) → ℕ → PartOutcome
         go cs at₁ = restStreams (i + 1) counts (storeChecks i q cs checks) at₁
+
+        more : List ℕ → ℕ → Read (List (List ℕ))
+        more vs at₁ = mapRead (λ cs. vs ∷ cs) (readChecks bs c i (count - (q + 1)) (vs ∷ earlier) at₁)
 
         each : List ℕ → ℕ → Read (List ℕ)
         each vs at₁ = judged vs at at₁ (judge c i earlier vs)

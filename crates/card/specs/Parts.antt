@@ -1,23 +1,20 @@
 -- What the reader's inner functions give, in the published numbers: the parts of a card as the program holds them. Nobody has to believe this
 -- file: it only ties the program's enums and structs to `Reading`.
 -- Assumes nothing.
-use Prim.Native.Nat.{ℕ}
+use Prim.Native.Nat.{ℕ, _+_, _/_, _%_}
+use mathlib.Core.Path.{_≡_}
 use mathlib.Core.List.{List, []}
 use lib.ListN.{replicate}
 use Rattle.card.specs.Refusals.{numberOf}
 use Rattle.card.specs.Outcome.{Outcome, outcomeOf}
 use Rattle.card.specs.Outcome.Outcome.{accepted, refused}
 use Rattle.card.specs.Fields.{Head, Stream, storeRows, emptyCard, codeOf, withChecks}
-use Rattle.card.specs.Reading.{Field, Read}
+use Rattle.card.specs.Reading.{Field, Read, byteField, kField, nField}
 use Rattle.card.specs.Reading.Field.{value, bad}
 use Rattle.card.specs.Reading.Read.{got, fault}
-use Rattle.orthogonal.specs.declared.Failure.{Failure}
-use Rattle.orthogonal.specs.declared.Failure.the-variants as Failures
-use Rattle.orthogonal.specs.declared.Judgement.{Judgement}
-use Rattle.orthogonal.specs.declared.Judgement.the-variants.{Stands, Fails}
+use Rattle.orthogonal.specs.Judgements.{CheckOutcome}
+use Rattle.orthogonal.specs.Judgements.CheckOutcome.{stands, fails}
 use Rattle.code.specs.declared.Card.{Card}
-use Rattle.card.specs.declared.Refusal.{Refusal}
-use Rattle.card.specs.declared.Refusal.the-variants.{OwnDigitUntouched, ErrorTouchedBefore}
 use Rattle.card.specs.declared.Verdict.{Verdict}
 use Rattle.card.specs.declared.Verdict.the-variants.{Accepted, Refused}
 use Rattle.card.specs.declared.fields.FieldRead.{FieldRead}
@@ -37,15 +34,10 @@ verdictOf (Fault refusal offset) = Refused refusal offset
 
 -- ---- checks
 
--- why a check that fails is refused
-abbrev pub refusalOf : Failure → Refusal
-refusalOf Failures.OwnDigitUntouched = OwnDigitUntouched
-refusalOf Failures.ErrorTouchedBefore = ErrorTouchedBefore
-
--- the refusal's number, 0 for none
-abbrev pub judgementNumber : Judgement → ℕ
-judgementNumber Stands = 0
-judgementNumber (Fails failure) = numberOf (refusalOf failure)
+-- the number of the refusal, as `judge` has it: 0 for none
+abbrev pub checkNumber : CheckOutcome → ℕ
+checkNumber stands = 0
+checkNumber (fails n) = n
 
 -- ---- parts
 
@@ -65,6 +57,17 @@ after go stop (fault n o) = stop n o
 
 abbrev pub refusedPart : ℕ → ℕ → PartOutcome
 refusedPart n o = record { outcome = refused n o; at = 0; card = emptyCard }
+
+-- the card's byte 0 and number
+pub record Opened (bs : List ℕ) (map number : ℕ) : Type 0 where
+  pub map-read : byteField bs 0 0 3 5 ≡ value map
+  pub number-read : byteField bs 1 0 255 1 ≡ value number
+
+-- .. with its k and n
+pub record Sized (bs : List ℕ) (map number k n : ℕ) : Type 0 where
+  pub opened : Opened bs map number
+  pub k-read : kField bs (map % 2) ≡ value k
+  pub n-read : nField bs (2 + map % 2) (map / 2) k ≡ value n
 
 -- the head: a card with no generators yet
 abbrev pub headPart : Read Head → PartOutcome

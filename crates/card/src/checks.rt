@@ -2,8 +2,10 @@
 ghost use mathlib.Core.Path.{_≡_};
 ghost use Prim.Native.Nat.{_+_, _<_, _≤_};
 ghost use lib.ListN.{length};
+ghost use Rattle.orthogonal.specs.Judgements.{failureNumber};
+ghost use Rattle.card.specs.Refusals.{numberOf};
 ghost use Rattle.card.specs.Reading.{readStreams};
-ghost use Rattle.card.specs.Parts.{refusalOf, partOf, checksPart};
+ghost use Rattle.card.specs.Parts.{partOf, checksPart};
 use crate::Refusal;
 use crate::Verdict;
 use crate::fields;
@@ -14,9 +16,9 @@ use code::Card;
 use orthogonal::Failure;
 use orthogonal::Judgement;
 
-// Why a check that fails is refused.
+// Why a check that fails is refused: the refusal of the failure's number.
 fn refusal_of(failure: Failure) -> Refusal
-    ensures { λ r. ⌜ r ≡ refusalOf failure ⌝ }
+    ensures { λ r. ⌜ numberOf r ≡ failureNumber failure ⌝ }
 {
     match failure {
         Failure::OwnDigitUntouched => Refusal::OwnDigitUntouched,

@@ -3,7 +3,7 @@ ghost use mathlib.Core.Path.{_≡_};
 ghost use Prim.Native.Nat.{_<_, _≤_};
 ghost use lib.ListN.{length};
 ghost use Rattle.card.specs.Reading.{readHead, readGenerators};
-ghost use Rattle.card.specs.Parts.{verdictOf, partOf, headPart, generatorsPart};
+ghost use Rattle.card.specs.Parts.{verdictOf, partOf, Opened, Sized, headPart, generatorsPart};
 ghost use Rattle.card.specs.Fields.{emptyCard};
 use crate::Refusal;
 use crate::Verdict;
@@ -43,34 +43,57 @@ pub(crate) fn refused_part(verdict: Verdict) -> Part
     }
 }
 
+// The fault of a field as the part that it ends.
+fn fault_part(field: FieldRead) -> Part
+    ensures { λ r. ⌜ r ≡ record { verdict = verdictOf field; at = 0; card = emptyCard } ⌝ }
+{
+    refused_part(fields::verdict_of(field))
+}
+
 // The fields before the generators.
 pub(crate) fn read_head(bytes: &[u8]) -> Part
     ensures { λ r. ⌜ partOf r ≡ headPart (readHead (now (bytes .entry))) ⌝ }
 {
     let map_read = fields::byte_field(bytes, 0, 0, 3, Refusal::MapBeyondStreams);
     let FieldRead::Value(map) = map_read else {
-        return refused_part(fields::verdict_of(map_read));
+        return fault_part(map_read);
     };
     let number_read = fields::byte_field(bytes, 1, 0, 255, Refusal::CardCutShort);
     let FieldRead::Value(number) = number_read else {
-        return refused_part(fields::verdict_of(number_read));
+        return fault_part(number_read);
     };
+    read_sizes(bytes, map, number)
+}
+
+// The head from k on, where byte 0 and the card number are read.
+fn read_sizes(bytes: &[u8], map: u32, number: u32) -> Part
+    requires { ⌜ Opened (now bytes) map number ⌝ }
+    ensures { λ r. ⌜ partOf r ≡ headPart (readHead (now (bytes .entry))) ⌝ }
+{
     let k_read = fields::k_field(bytes, map % 2);
     let FieldRead::Value(k) = k_read else {
-        return refused_part(fields::verdict_of(k_read));
+        return fault_part(k_read);
     };
     let n_read = fields::n_field(bytes, 2 + (map % 2) as usize, map / 2, k);
     let FieldRead::Value(n) = n_read else {
-        return refused_part(fields::verdict_of(n_read));
+        return fault_part(n_read);
     };
-    let m_at = 2 + (map % 2) as usize + (map / 2) as usize;
-    let m_read = fields::byte_field(bytes, m_at, 0, 31, Refusal::MemoryAboveLimit);
+    read_memory(bytes, map, number, k, n)
+}
+
+// The head from m on, where k and n are read too.
+fn read_memory(bytes: &[u8], map: u32, number: u32, k: u32, n: u32) -> Part
+    requires { ⌜ Sized (now bytes) map number k n ⌝ }
+    ensures { λ r. ⌜ partOf r ≡ headPart (readHead (now (bytes .entry))) ⌝ }
+{
+    let at = 2 + (map % 2) as usize + (map / 2) as usize;
+    let m_read = fields::byte_field(bytes, at, 0, 31, Refusal::MemoryAboveLimit);
     let FieldRead::Value(m) = m_read else {
-        return refused_part(fields::verdict_of(m_read));
+        return fault_part(m_read);
     };
     Part {
         verdict: Verdict::Accepted,
-        at: m_at + 1,
+        at: at + 1,
         card: Card {
             number: number as u8,
             k: k as usize,
@@ -93,7 +116,7 @@ pub(crate) fn read_generators(bytes: &[u8], start: usize, card: Card) -> Part
     let m = card.m;
     let map_read = fields::map_field(bytes, start, k * p);
     let FieldRead::Value(map) = map_read else {
-        return refused_part(fields::verdict_of(map_read));
+        return fault_part(map_read);
     };
     let mut verdict = Verdict::Accepted;
     let mut generators = [0u32; 32];

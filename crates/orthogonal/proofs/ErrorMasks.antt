@@ -15,9 +15,15 @@ use Rattle.bits.proofs.Sums.{sum-none, none-of-sum}
 use Rattle.bits.proofs.Lists.{upTo-length, upTo-at}
 use Rattle.bits.proofs.Digits.{bit-le, bit-zero, bit-suc, bit-or}
 use Rattle.orthogonal.specs.ErrorMasks.{touchBy, errorMask, errorsBy, others, shared, joined, judgeStream, judgeBy}
+use Rattle.orthogonal.specs.Judgements.{failureNumber}
+use Rattle.orthogonal.specs.Judgements.CheckOutcome.{stands, fails}
+use Rattle.orthogonal.specs.declared.Failure.{Failure}
 use Rattle.orthogonal.specs.declared.Failure.the-variants.{OwnDigitUntouched, ErrorTouchedBefore}
-use Rattle.orthogonal.specs.declared.Judgement.the-variants.{Stands, Fails}
-use Rattle.orthogonal.specs.declared.Judged.{Judged}
+
+-- no failure has the number 0
+pub failure-least : (x : Failure) → 1 ≤ failureNumber x
+failure-least OwnDigitUntouched = omega arith
+failure-least ErrorTouchedBefore = omega arith
 
 pub touch-lt : (generators masks : List ℕ) (p s b : ℕ) → touchBy generators masks p s b < 2
 unfolding touchBy
@@ -25,17 +31,17 @@ touch-lt generators masks p s b = omega arith
 
 -- ---- case by case
 module _ (errors touched : List ℕ) (i : ℕ) {stream : ℕ} (at : stream ≡ min i 7) where
-  pub judged-untouched : (getD errors stream 0 % 2 ≡ 1 → ⊥) → record { judgement = Fails OwnDigitUntouched; touched = touched } ≡ judgeBy errors touched i
+  pub judged-untouched : (getD errors stream 0 % 2 ≡ 1 → ⊥) → record { outcome = fails 8; touched = touched } ≡ judgeBy errors touched i
   unfolding judgeBy judgeStream
   judged-untouched h = simp (← at, ne-eqb _ 1 h)
 
   module _ (own : getD errors stream 0 % 2 ≡ 1) {n : ℕ} (e : n ≡ sumBelow 8 (λ s. dot (getD touched s 0) (getD (others errors stream) s 0))) where
     pub judged-stands : {l : List ℕ} → n ≡ 0 → l ≡ upTo 8 (λ s. bitOr (getD touched s 0) (getD (others errors stream) s 0))
-        → record { judgement = Stands; touched = l } ≡ judgeBy errors touched i
+        → record { outcome = stands; touched = l } ≡ judgeBy errors touched i
     unfolding judgeBy judgeStream shared joined
     judged-stands z q = simp (← at, eq-eqb _ 1 own, ← e, z, q)
 
-    pub judged-before : (n ≡ 0 → ⊥) → record { judgement = Fails ErrorTouchedBefore; touched = touched } ≡ judgeBy errors touched i
+    pub judged-before : (n ≡ 0 → ⊥) → record { outcome = fails 9; touched = touched } ≡ judgeBy errors touched i
     unfolding judgeBy judgeStream shared
     judged-before z = simp (← at, eq-eqb _ 1 own, ← e, ne-eqb _ 0 z)
 

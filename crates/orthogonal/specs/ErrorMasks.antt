@@ -9,9 +9,8 @@ use lib.Dec.{ltb, eqb}
 use lib.Bits.{bitOr}
 use Rattle.bits.specs.Sums.{sumBelow, upTo}
 use Rattle.bits.specs.Digits.{dot, fromDigits}
-use Rattle.orthogonal.specs.declared.Failure.the-variants.{OwnDigitUntouched, ErrorTouchedBefore}
-use Rattle.orthogonal.specs.declared.Judgement.the-variants.{Stands, Fails}
-use Rattle.orthogonal.specs.declared.Judged.{Judged}
+use Rattle.orthogonal.specs.Judgements.{CheckJudged}
+use Rattle.orthogonal.specs.Judgements.CheckOutcome.{stands, fails}
 
 -- 1 if the check with these masks touches the error of information stream s at offset b
 unfoldable pub touchBy : List ℕ → List ℕ → ℕ → ℕ → ℕ → ℕ
@@ -37,15 +36,15 @@ shared xs ys = sumBelow 8 (λ s. dot (getD xs s 0) (getD ys s 0))
 unfoldable pub joined : List ℕ → List ℕ → List ℕ
 joined xs ys = upTo 8 (λ s. bitOr (getD xs s 0) (getD ys s 0))
 
--- its own digit untouched, else an error touched before, else the errors touched with those of the check added
-unfoldable pub judgeStream : List ℕ → List ℕ → ℕ → Judged
+-- its own digit untouched 8, else an error touched before 9, else it stands, and its errors are added to those touched
+unfoldable pub judgeStream : List ℕ → List ℕ → ℕ → CheckJudged
 judgeStream errors touched i =
     cond (eqb (getD errors i 0 % 2) 1)
     (cond (eqb (shared touched (others errors i)) 0)
-    (record { judgement = Stands; touched = joined touched (others errors i) })
-    (record { judgement = Fails ErrorTouchedBefore; touched = touched }))
-    (record { judgement = Fails OwnDigitUntouched; touched = touched })
+    (record { outcome = stands; touched = joined touched (others errors i) })
+    (record { outcome = fails 9; touched = touched }))
+    (record { outcome = fails 8; touched = touched })
 
 -- for the streams that there are
-unfoldable pub judgeBy : List ℕ → List ℕ → ℕ → Judged
+unfoldable pub judgeBy : List ℕ → List ℕ → ℕ → CheckJudged
 judgeBy errors touched i = judgeStream errors touched (min i 7)

@@ -2,9 +2,10 @@
 // judgement by them.
 ghost use mathlib.Core.Path.{_≡_};
 ghost use Prim.Native.Nat.{_<_, _≤_};
+ghost use Rattle.orthogonal.specs.Judgements.{published};
 ghost use Rattle.orthogonal.specs.ErrorMasks.{touchBy, errorMask, errorsBy, judgeBy};
 
-// Why a check does not stand.
+// Why a check does not stand. Each case has its published number, by `failureNumber`.
 pub enum Failure {
     OwnDigitUntouched,
     ErrorTouchedBefore,
@@ -29,7 +30,9 @@ fn touch_by(generators: &[u32; 32], masks: &[u32; 8], p: usize, s: usize, b: usi
 {
     let mut sum: u32 = 0;
     for j in 0..p {
-        sum = sum ^ (bits::word(masks, j) >> b & bits::word(generators, s * 8 + j));
+        let mask = bits::word(masks, j);
+        let generator = bits::word(generators, s * 8 + j);
+        sum = sum ^ (mask >> b & generator);
     }
     u32::count_ones(sum) % 2
 }
@@ -72,7 +75,7 @@ pub fn errors_by(generators: &[u32; 32], masks: &[u32; 8], k: usize, p: usize, m
 // A whole check of stream i, the last one where there is none, by the errors that it touches and those that the earlier checks of its stream
 // touch: its own digit is tested first.
 pub fn judge(errors: [u32; 8], touched: [u32; 8], i: usize) -> Judged
-    ensures { λ r. ⌜ r ≡ judgeBy errors touched i ⌝ }
+    ensures { λ r. ⌜ published r ≡ judgeBy errors touched i ⌝ }
 {
     let stream = bits::at_most(i, 7);
     let own = errors[stream];

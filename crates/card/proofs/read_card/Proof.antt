@@ -19,14 +19,18 @@ refused-requires c κs = search needs
 
 returns : tie.Need-returns
 returns c =
-    card-promise (now (c .before .before .before .before .before .args .bytes)) _ (λ i. omega (arith, c .before .before .before .before .shared-slice-known .given i))
-    (refused-read (c .refused .ensures) (c .before .enum-told .given .1) ∙ head-stop (now (c .before .before .before .before .before .args .bytes)) _ (c .before .before .before .read-head .ensures) (c .before .enum-told .given .1))
+    let told = c .before .enum-told .given .1 in
+    let head = c .before .before .before in
+    let start = head .before in
+    card-promise (now (start .before .args .bytes)) _ (λ i. omega (arith, start .shared-slice-known .given i))
+    (refused-read (c .refused .ensures) told ∙ head-stop _ _ (head .read-head .ensures) told)
 
 enum-told-2 : tie.Need-enum-told-2
 enum-told-2 c = search needs
 
 read-generators-requires : tie.Need-read-generators-requires
-read-generators-requires c κs = head-ranges (now (c .before .before .before .before .before .args .bytes)) _ (c .before .before .before .read-head .ensures) (c .before .enum-told2 .given .1)
+read-generators-requires c κs =
+    head-ranges _ _ (c .before .before .before .read-head .ensures) (c .before .enum-told2 .given .1)
 
 enum-told-3 : tie.Need-enum-told-3
 enum-told-3 c = search needs
@@ -36,15 +40,22 @@ refused-requires-2 c κs = search needs
 
 returns-2 : tie.Need-returns-2
 returns-2 c =
-    card-promise (now (c .before .before .before .before .before .before .before .before .before .args .bytes)) _ (λ i. omega (arith, c .before .before .before .before .before .before .before .before .shared-slice-known .given i))
-    (refused-read (c .refused2 .ensures) (c .before .enum-told3 .given .1)
-    ∙ generators-stop (now (c .before .before .before .before .before .before .before .before .before .args .bytes)) _ (c .before .before .before .before .before .before .before .read-head .ensures) (c .before .before .before .before .before .enum-told2 .given .1) _ (c .before .before .before .read-generators .ensures) (c .before .enum-told3 .given .1))
+    let told = c .before .enum-told3 .given .1 in
+    let code = c .before .before .before in
+    let head = code .before .before in
+    let start = head .before .before .before in
+    card-promise (now (start .before .args .bytes)) _ (λ i. omega (arith, start .shared-slice-known .given i))
+    (refused-read (c .refused2 .ensures) told
+    ∙ generators-stop _ _ (head .before .before .read-head .ensures) (head .enum-told2 .given .1) _ (code .read-generators .ensures) told)
 
 enum-told-4 : tie.Need-enum-told-4
 enum-told-4 c = search needs
 
 read-checks-requires : tie.Need-read-checks-requires
-read-checks-requires c κs = code-ranges (now (c .before .before .before .before .before .before .before .before .before .args .bytes)) _ (c .before .before .before .before .before .before .before .read-head .ensures) (c .before .before .before .before .before .enum-told2 .given .1) _ (c .before .before .before .read-generators .ensures) (c .before .enum-told4 .given .1)
+read-checks-requires c κs =
+    let code = c .before in
+    let head = code .before .before .before .before in
+    code-ranges _ _ (head .before .before .read-head .ensures) (head .enum-told2 .given .1) _ (code .before .before .read-generators .ensures) (code .enum-told4 .given .1)
 
 enum-told-5 : tie.Need-enum-told-5
 enum-told-5 c = search needs
@@ -54,9 +65,16 @@ refused-requires-3 c κs = search needs
 
 returns-3 : tie.Need-returns-3
 returns-3 c =
-    card-promise (now (c .before .before .before .before .before .before .before .before .before .before .before .before .before .args .bytes)) _ (λ i. omega (arith, c .before .before .before .before .before .before .before .before .before .before .before .before .shared-slice-known .given i))
-    (refused-read (c .refused3 .ensures) (c .before .enum-told5 .given .1)
-    ∙ checks-stop (now (c .before .before .before .before .before .before .before .before .before .before .before .before .before .args .bytes)) _ (c .before .before .before .before .before .before .before .before .before .before .before .read-head .ensures) (c .before .before .before .before .before .before .before .before .before .enum-told2 .given .1) _ (c .before .before .before .before .before .before .before .read-generators .ensures) (c .before .before .before .before .before .enum-told4 .given .1) _ (c .before .before .before .read-checks .ensures) (c .before .enum-told5 .given .1))
+    let told = c .before .enum-told5 .given .1 in
+    let checks = c .before .before .before in
+    let code = checks .before .before in
+    let head = code .before .before .before .before in
+    let start = head .before .before .before in
+    let first = head .before .before .read-head .ensures in
+    let second = code .before .before .read-generators .ensures in
+    card-promise (now (start .before .args .bytes)) _ (λ i. omega (arith, start .shared-slice-known .given i))
+    (refused-read (c .refused3 .ensures) told
+    ∙ checks-stop _ _ first (head .enum-told2 .given .1) _ second (code .enum-told4 .given .1) _ (checks .read-checks .ensures) told)
 
 enum-told-6 : tie.Need-enum-told-6
 enum-told-6 c = search needs
@@ -66,14 +84,28 @@ refused-requires-4 c κs = search needs
 
 returns-4 : tie.Need-returns-4
 returns-4 c =
-    card-promise (now (c .before .before .before .before .before .before .before .before .before .before .before .before .before .before .before .args .bytes)) _ (λ i. omega (arith, c .before .before .before .before .before .before .before .before .before .before .before .before .before .before .shared-slice-known .given i))
+    let checks = c .before .before .before in
+    let code = checks .before .before .before .before in
+    let head = code .before .before .before .before in
+    let start = head .before .before .before in
+    let first = head .before .before .read-head .ensures in
+    let second = code .before .before .read-generators .ensures in
+    let third = checks .before .before .read-checks .ensures in
+    card-promise (now (start .before .args .bytes)) _ (λ i. omega (arith, start .shared-slice-known .given i))
     (refused-read (c .refused4 .ensures) refl
-    ∙ after-stop (now (c .before .before .before .before .before .before .before .before .before .before .before .before .before .before .before .args .bytes)) _ (c .before .before .before .before .before .before .before .before .before .before .before .before .before .read-head .ensures) (c .before .before .before .before .before .before .before .before .before .before .before .enum-told2 .given .1) _ (c .before .before .before .before .before .before .before .before .before .read-generators .ensures) (c .before .before .before .before .before .before .before .enum-told4 .given .1) _ (c .before .before .before .before .before .read-checks .ensures) (c .before .before .before .enum-told6 .given .1) (c .before .if1 .taken))
+    ∙ after-stop _ _ first (head .enum-told2 .given .1) _ second (code .enum-told4 .given .1) _ third (checks .enum-told6 .given .1) (c .before .if1 .taken))
 
 returns-5 : tie.Need-returns-5
 returns-5 c =
-    card-promise (now (c .before .before .before .before .before .before .before .before .before .before .before .before .before .before .before .args .bytes)) _ (λ i. omega (arith, c .before .before .before .before .before .before .before .before .before .before .before .before .before .before .shared-slice-known .given i))
-    (accepted-card (now (c .before .before .before .before .before .before .before .before .before .before .before .before .before .before .before .args .bytes)) _ (c .before .before .before .before .before .before .before .before .before .before .before .before .before .read-head .ensures) (c .before .before .before .before .before .before .before .before .before .before .before .enum-told2 .given .1) _ (c .before .before .before .before .before .before .before .before .before .read-generators .ensures) (c .before .before .before .before .before .before .before .enum-told4 .given .1) _ (c .before .before .before .before .before .read-checks .ensures) (c .before .before .before .enum-told6 .given .1) (c .before .if1 .left))
+    let checks = c .before .before .before in
+    let code = checks .before .before .before .before in
+    let head = code .before .before .before .before in
+    let start = head .before .before .before in
+    let first = head .before .before .read-head .ensures in
+    let second = code .before .before .read-generators .ensures in
+    let third = checks .before .before .read-checks .ensures in
+    card-promise (now (start .before .args .bytes)) _ (λ i. omega (arith, start .shared-slice-known .given i))
+    (accepted-card _ _ first (head .enum-told2 .given .1) _ second (code .enum-told4 .given .1) _ third (checks .enum-told6 .given .1) (c .before .if1 .left))
 
 pub read-card-spec : {M : Type 1} → statement M
 read-card-spec =

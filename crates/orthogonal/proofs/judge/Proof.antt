@@ -105,11 +105,16 @@ loop-again c =
 returns-2 : tie.Need-returns-2 Inv-loop μ-loop
 returns-2 c =
     let v = c .before .before .loop .inv in
-    judged-stands _ _ _ (c .before .before .before .before .at-most .ensures) (c .before .before .before .if1 .left) (sum-end _ _ _ (c .before .before .loop .inv .0) (c .before .loop-test .left) (c .before .before .loop .inv .1 .1 .0)) (c .if2 .taken)
-    (fill-end _ _ _ _ (v .1 .1 .1 .0) (v .0) (c .before .loop-test .left) (v .1 .1 .1 .1))
+    let out = c .before .loop-test .left in
+    let tested = c .before .before .before in
+    judged-stands _ _ _ (tested .before .at-most .ensures) (tested .if1 .left) (sum-end _ _ _ (v .0) out (v .1 .1 .0)) (c .if2 .taken)
+    (fill-end _ _ _ _ (v .1 .1 .1 .0) (v .0) out (v .1 .1 .1 .1))
 
 returns-3 : tie.Need-returns-3 Inv-loop μ-loop
-returns-3 c = judged-before _ _ _ (c .before .before .before .before .at-most .ensures) (c .before .before .before .if1 .left) (sum-end _ _ _ (c .before .before .loop .inv .0) (c .before .loop-test .left) (c .before .before .loop .inv .1 .1 .0)) (c .if2 .left)
+returns-3 c =
+    let v = c .before .before .loop .inv in
+    let tested = c .before .before .before in
+    judged-before _ _ _ (tested .before .at-most .ensures) (tested .if1 .left) (sum-end _ _ _ (v .0) (c .before .loop-test .left) (v .1 .1 .0)) (c .if2 .left)
 
 pub judge-spec : {M : Type 1} → statement M
 judge-spec =

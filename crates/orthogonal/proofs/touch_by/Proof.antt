@@ -27,12 +27,6 @@ loop-holds c = (omega arith, omega arith, refl)
 word-requires : tie.Need-word-requires Inv-loop μ-loop
 word-requires c κs = tt
 
-cast-sum : tie.Need-cast-sum Inv-loop μ-loop
-cast-sum c = omega arith
-
-shr-sum : tie.Need-shr-sum Inv-loop μ-loop
-shr-sum c = omega arith
-
 mul-word : tie.Need-mul-word Inv-loop μ-loop
 mul-word c = omega arith
 
@@ -41,6 +35,12 @@ add-word c = omega arith
 
 word-requires-2 : tie.Need-word-requires-2 Inv-loop μ-loop
 word-requires-2 c κs = tt
+
+cast-sum : tie.Need-cast-sum Inv-loop μ-loop
+cast-sum c = omega arith
+
+shr-sum : tie.Need-shr-sum Inv-loop μ-loop
+shr-sum c = omega arith
 
 add-j : tie.Need-add-j Inv-loop μ-loop
 add-j c = omega arith
@@ -80,11 +80,11 @@ touch-by-spec =
     μ-loop
     loop-holds
     word-requires
-    cast-sum
-    shr-sum
     mul-word
     add-word
     word-requires-2
+    cast-sum
+    shr-sum
     add-j
     loop-less
     loop-again

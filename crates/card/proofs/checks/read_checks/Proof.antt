@@ -1,20 +1,23 @@
 -- The rest of the checks from where the loops stand gives the whole answer (`RestChecks`, `CheckLoops`).
-use Prim.Native.Nat.{_-_}
+use Prim.Native.Nat.{ℕ, _-_}
 use mathlib.Core.Path.{_≡_, refl, sym, ap, _∙_}
 use mathlib.Core.Logic.{⊎-elim}
 use native.Mathlib.Omega.{arith}
 use lib.Pow.{pow-pos}
 use denote.Ref.{now}
+use Rattle.orthogonal.specs.Judgements.{judgementOf}
+use Rattle.orthogonal.specs.declared.Judgement.{Judgement}
+use Rattle.orthogonal.proofs.ErrorMasks.{failure-least}
 use Rattle.card.specs.Outcome.{outcomeOf}
 use Rattle.card.specs.Fields.{emptyCard}
 use Rattle.card.specs.Reading.{readStreams}
-use Rattle.card.specs.Parts.{refusalOf, judgementNumber, verdictOf, partOf, checksPart}
+use Rattle.card.specs.Parts.{checkNumber, verdictOf, partOf, checksPart}
 use Rattle.card.specs.declared.Verdict.{Verdict}
 use Rattle.card.proofs.FieldValues.{has-value, has-fault, byte-is, standing-inside}
-use Rattle.card.proofs.Numbers.{number-least}
 use Rattle.card.proofs.HeadStages.{top-map, map-limit}
 use Rattle.card.proofs.RestChecks.{streams-start, streams-end, streams-fault, checks-fault, check-fault, check-fails}
-use Rattle.card.proofs.CheckLoops.{AtStreams, AtChecks, AtMasks, place-of, judged-number, checks-begin, masks-begin, masks-next, checks-next, streams-next, leftTables, tables-ended, tables-broken, tables-failed}
+use Rattle.card.proofs.CheckLoops.{AtStreams, AtChecks, AtMasks, place-of, judged-number, checks-begin, masks-begin, masks-next, checks-next, streams-next}
+use Rattle.card.proofs.CheckLoops.{leftTables, tables-ended, tables-broken, tables-failed}
 use borrow.Author.Needs.{needs}
 use Rattle.card.proofs.checks.read_checks.Statement.{statement}
 use Rattle.card.proofs.checks.read_checks.Tie as tie
@@ -94,7 +97,11 @@ shl-byte-field : tie.Need-shl-byte-field Inv-loop2 μ-loop2 Inv-loop μ-loop Inv
 shl-byte-field c = omega arith
 
 sub-byte-field : tie.Need-sub-byte-field Inv-loop2 μ-loop2 Inv-loop μ-loop Inv-card μ-card
-sub-byte-field c = let q = top-map (c .before .before .before .before .before .before .before .before .before .before .args .card .p) (omega arith) in let z = pow-pos (c .before .before .before .before .before .before .before .before .before .before .args .card .p) in omega arith
+sub-byte-field c =
+    let p : ℕ = c .before .before .before .before .before .before .before .before .before .before .args .card .p in
+    let q = top-map p (omega arith) in
+    let z = pow-pos p in
+    omega arith
 
 byte-field-requires-2 :
     tie.Need-byte-field-requires-2 Inv-loop2 μ-loop2 Inv-loop μ-loop Inv-card μ-card
@@ -165,7 +172,10 @@ mul-at : tie.Need-mul-at Inv-loop2 μ-loop2 Inv-loop μ-loop Inv-card μ-card
 mul-at c = omega arith
 
 add-at-3 : tie.Need-add-at-3 Inv-loop2 μ-loop2 Inv-loop μ-loop Inv-card μ-card
-add-at-3 c = let h = standing-inside _ _ _ _ _ (c .before .before .before .before .before .loop2 .inv .inside) (omega arith) (has-value (c .before .before .before .standing-mask .ensures) (c .before .mask-read .given .1)) in omega arith
+add-at-3 c =
+    let v = c .before .before .before .before .before .loop2 .inv in
+    let mask = has-value (c .before .before .before .standing-mask .ensures) (c .before .mask-read .given .1) in
+    let h = standing-inside _ _ _ _ _ (v .inside) (omega arith) mask in omega arith
 
 add-j : tie.Need-add-j Inv-loop2 μ-loop2 Inv-loop μ-loop Inv-card μ-card
 add-j c = record { fits = place-of (c .before .before .before .before .before .loop2 .inv) (c .before .before .before .before .loop2-test .taken) .next-fits }
@@ -203,8 +213,11 @@ loop-less c = omega arith
 
 loop-again : tie.Need-loop-again Inv-loop2 μ-loop2 Inv-loop μ-loop Inv-card μ-card
 loop-again c =
-    checks-next (c .before .before .before .before .before .before .before .before .loop2 .inv) (c .before .before .before .before .before .before .before .loop2-test .left)
-    (c .before .before .before .before .errors-by .ensures) (c .before .before .before .judge .ensures) (ap judgementNumber (c .before .enum-told4 .given .1))
+    let judged = c .before .before .before in
+    let errors = judged .before in
+    let masks = errors .before .before .before in
+    checks-next (masks .before .loop2 .inv) (masks .loop2-test .left) (errors .errors-by .ensures) (judged .judge .ensures)
+    (ap (λ (x : Judgement). checkNumber (judgementOf x)) (c .before .enum-told4 .given .1))
 
 add-i : tie.Need-add-i Inv-loop2 μ-loop2 Inv-loop μ-loop Inv-card μ-card
 add-i c = omega arith
@@ -239,9 +252,9 @@ settled c =
     (λ w.
     let t = w .11 .inv in
     let e = judged-number t (w .12 .left) (w .15 .ensures) (w .16 .ensures)
-    ∙ ap judgementNumber (w .18 .given .1) in
+    ∙ ap (λ (x : Judgement). checkNumber (judgementOf x)) (w .18 .given .1) in
     tables-failed _ _ _ _ (w .21) (w .20 .ensures)
-    (sym (check-fails _ _ _ _ _ _ _ _ _ _ _ _ _ (w .12 .left) e (λ z. let l = number-least (refusalOf (w .18 .given .0 .0)) in omega arith)) ∙ t .same)))))
+    (sym (check-fails _ _ _ _ _ _ _ _ _ _ _ _ _ (w .12 .left) e (λ z. let l = failure-least (w .18 .given .0 .0) in omega arith)) ∙ t .same)))))
     (c .card-test .came)
 
 enum-told-5 : tie.Need-enum-told-5 Inv-loop2 μ-loop2 Inv-loop μ-loop Inv-card μ-card

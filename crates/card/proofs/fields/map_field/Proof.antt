@@ -1,12 +1,9 @@
 -- By the tests that led to each answer.
-use Prim.Native.Nat.{_+_}
 use mathlib.Core.Path.{ap, _∙_}
-use native.Mathlib.Omega.{arith}
-use lib.ListN.{length}
-use denote.Ref.{now}
-use borrow.Author.Tests.{eq-eqb, ne-eqb, lt-leb, le-leb}
+use borrow.Author.Tests.{eq-eqb, ne-eqb}
 use Rattle.card.specs.Reading.{mapField}
 use Rattle.card.specs.Parts.{fieldOf}
+use Rattle.card.proofs.FieldValues.{ends-inside, ends-beyond}
 use borrow.Author.Needs.{needs}
 use Rattle.card.proofs.fields.map_field.Statement.{statement}
 use Rattle.card.proofs.fields.map_field.Tie as tie
@@ -19,9 +16,7 @@ cut-short-requires c κs = search needs
 
 returns : tie.Need-returns
 unfolding mapField
-returns c =
-    ap fieldOf (c .cut-short .ensures)
-    ∙ simp (lt-leb (c .before .before .before .args .at + 2) (length (now (c .before .before .before .args .bytes))) (omega arith))
+returns c = ap fieldOf (c .cut-short .ensures) ∙ simp (ends-beyond (c .before .before .before .pre .0) (c .before .if1 .taken))
 
 shared-slice-read-wide : tie.Need-shared-slice-read-wide
 shared-slice-read-wide c = search needs
@@ -52,11 +47,19 @@ shr-beyond c = search needs
 
 returns-2 : tie.Need-returns-2
 unfolding mapField
-returns-2 c = simp (le-leb (c .before .before .before .before .before .before .before .args .at + 2) (length (now (c .before .before .before .before .before .before .before .args .bytes))) (omega arith), ← (c .before .before .before .wide .ensures .0), ← (c .before .wide2 .ensures .0), eq-eqb _ 0 (c .if2 .taken))
+returns-2 c =
+    let low = c .before .before .before in
+    let tested = low .before .before in
+    let room = ends-inside (tested .before .before .pre .0) (tested .if1 .left) in
+    simp (room, ← (low .wide .ensures .0), ← (c .before .wide2 .ensures .0), eq-eqb _ 0 (c .if2 .taken))
 
 returns-3 : tie.Need-returns-3
 unfolding mapField
-returns-3 c = simp (le-leb (c .before .before .before .before .before .before .before .args .at + 2) (length (now (c .before .before .before .before .before .before .before .args .bytes))) (omega arith), ← (c .before .before .before .wide .ensures .0), ← (c .before .wide2 .ensures .0), ne-eqb _ 0 (c .if2 .left))
+returns-3 c =
+    let low = c .before .before .before in
+    let tested = low .before .before in
+    let room = ends-inside (tested .before .before .pre .0) (tested .if1 .left) in
+    simp (room, ← (low .wide .ensures .0), ← (c .before .wide2 .ensures .0), ne-eqb _ 0 (c .if2 .left))
 
 pub map-field-spec : {M : Type 1} → statement M
 map-field-spec =

@@ -59,8 +59,9 @@ add-result-3 c = search needs
 returns : tie.Need-returns
 unfolding wordAt
 returns c =
-    omega
-    (arith, c .before .before .before .before .before .before .wide .ensures .0, c .before .before .before .before .wide2 .ensures .0, c .before .before .wide3 .ensures .0, c .wide4 .ensures .0)
+    let third = c .before .before in
+    let second = third .before .before in
+    omega (arith, second .before .before .wide .ensures .0, second .wide2 .ensures .0, third .wide3 .ensures .0, c .wide4 .ensures .0)
 
 pub word-at-spec : {M : Type 1} → statement M
 word-at-spec =

@@ -44,16 +44,14 @@ enum-known-map-read c = search needs
 enum-told : tie.Need-enum-told Inv-loop μ-loop Inv-rows μ-rows
 enum-told c = search needs
 
-verdict-of-requires : tie.Need-verdict-of-requires Inv-loop μ-loop Inv-rows μ-rows
-verdict-of-requires c κs = search needs
-
-refused-part-requires : tie.Need-refused-part-requires Inv-loop μ-loop Inv-rows μ-rows
-refused-part-requires c κs = search needs
+fault-part-requires : tie.Need-fault-part-requires Inv-loop μ-loop Inv-rows μ-rows
+fault-part-requires c κs = search needs
 
 returns : tie.Need-returns Inv-loop μ-loop Inv-rows μ-rows
 returns c =
-    refused-by (c .refused-part .ensures) (c .before .verdict-of .ensures) (c .before .before .enum-told .given .1)
-    ∙ map-fault _ (c .before .before .before .before .before .before .args .card) _ (has-fault (c .before .before .before .before .map-field .ensures) (c .before .before .enum-told .given .1))
+    let told = c .before .enum-told .given .1 in
+    let read = c .before .before .before in
+    refused-by (c .fault-part .ensures) told ∙ map-fault _ (read .before .before .args .card) _ (has-fault (read .map-field .ensures) told)
 
 add-at : tie.Need-add-at Inv-loop μ-loop Inv-rows μ-rows
 add-at c = let h = map-is _ _ _ _ (has-value (c .before .before .before .map-field .ensures) (c .before .map-read .given .1)) .inside in omega arith
@@ -88,8 +86,8 @@ enum-known-mask-read c = search needs
 enum-told-2 : tie.Need-enum-told-2 Inv-loop μ-loop Inv-rows μ-rows
 enum-told-2 c = search needs
 
-verdict-of-requires-2 : tie.Need-verdict-of-requires-2 Inv-loop μ-loop Inv-rows μ-rows
-verdict-of-requires-2 c κs = search needs
+verdict-of-requires : tie.Need-verdict-of-requires Inv-loop μ-loop Inv-rows μ-rows
+verdict-of-requires c κs = search needs
 
 mul-generators : tie.Need-mul-generators Inv-loop μ-loop Inv-rows μ-rows
 mul-generators c = omega arith
@@ -110,7 +108,10 @@ mul-at : tie.Need-mul-at Inv-loop μ-loop Inv-rows μ-rows
 mul-at c = omega arith
 
 add-at-2 : tie.Need-add-at-2 Inv-loop μ-loop Inv-rows μ-rows
-add-at-2 c = let h = standing-inside _ _ _ _ _ (c .before .before .before .before .before .loop .inv .inside) (omega arith) (has-value (c .before .before .before .standing-mask .ensures) (c .before .mask-read .given .1)) in omega arith
+add-at-2 c =
+    let v = c .before .before .before .before .before .loop .inv in
+    let mask = has-value (c .before .before .before .standing-mask .ensures) (c .before .mask-read .given .1) in
+    let h = standing-inside _ _ _ _ _ (v .inside) (omega arith) mask in omega arith
 
 add-j : tie.Need-add-j Inv-loop μ-loop Inv-rows μ-rows
 add-j c = omega arith
@@ -121,12 +122,13 @@ loop-less c = omega arith
 loop-again : tie.Need-loop-again Inv-loop μ-loop Inv-rows μ-rows
 loop-again c =
     let v = c .before .before .before .before .before .loop .inv in
+    let mask = has-value (c .before .before .before .standing-mask .ensures) (c .before .mask-read .given .1) in
     record {
       mask-most = omega arith;
-      inside = standing-inside _ _ _ _ _ (v .inside) (omega arith) (has-value (c .before .before .before .standing-mask .ensures) (c .before .mask-read .given .1));
+      inside = standing-inside _ _ _ _ _ (v .inside) (omega arith) mask;
       long = simp length-set (v .long);
       unbroken = v .unbroken;
-      same = sym (row-turn _ _ _ _ _ _ _ (c .before .before .before .before .loop-test .taken) (has-value (c .before .before .before .standing-mask .ensures) (c .before .mask-read .given .1))) ∙ v .same;
+      same = sym (row-turn _ _ _ _ _ _ _ (c .before .before .before .before .loop-test .taken) mask) ∙ v .same;
     }
 
 add-i : tie.Need-add-i Inv-loop μ-loop Inv-rows μ-rows
@@ -162,13 +164,13 @@ settled c =
 enum-told-3 : tie.Need-enum-told-3 Inv-loop μ-loop Inv-rows μ-rows
 enum-told-3 c = search needs
 
-refused-part-requires-2 : tie.Need-refused-part-requires-2 Inv-loop μ-loop Inv-rows μ-rows
-refused-part-requires-2 c κs = search needs
+refused-part-requires : tie.Need-refused-part-requires Inv-loop μ-loop Inv-rows μ-rows
+refused-part-requires c κs = search needs
 
 returns-2 : tie.Need-returns-2 Inv-loop μ-loop Inv-rows μ-rows
 returns-2 c =
     let e = c .before .enum-told3 .given .1 in
-    ap partOf (c .refused-part2 .ensures)
+    ap partOf (c .refused-part .ensures)
     ∙ ap (λ (v : Verdict). record { outcome = outcomeOf v; at = 0; card = emptyCard }) e
     ∙ sym (left-broken _ _ _ e refl)
     ∙ settled (c .before .before .before)
@@ -191,8 +193,7 @@ read-generators-spec =
     map-field-requires
     enum-known-map-read
     enum-told
-    verdict-of-requires
-    refused-part-requires
+    fault-part-requires
     returns
     add-at
     rows-holds
@@ -200,7 +201,7 @@ read-generators-spec =
     standing-mask-requires
     enum-known-mask-read
     enum-told-2
-    verdict-of-requires-2
+    verdict-of-requires
     mul-generators
     add-generators
     mul-generators-2
@@ -215,7 +216,7 @@ read-generators-spec =
     rows-less
     rows-again
     enum-told-3
-    refused-part-requires-2
+    refused-part-requires
     returns-2
     enum-told-4
     returns-3)

@@ -1,0 +1,85 @@
+-- k and n, after byte 0 and the card number; the rest of the head is read where both have values.
+use mathlib.Core.Path.{_∙_}
+use Rattle.card.proofs.FieldValues.{has-value, has-fault, k-is}
+use Rattle.card.proofs.HeadStages.{refused-by, k-faulty, n-faulty}
+use borrow.Author.Needs.{needs}
+use Rattle.card.proofs.parts.read_sizes.Statement.{statement}
+use Rattle.card.proofs.parts.read_sizes.Tie as tie
+
+k-field-requires : tie.Need-k-field-requires
+k-field-requires c κs = search needs
+
+enum-known-k-read : tie.Need-enum-known-k-read
+enum-known-k-read c = search needs
+
+enum-told : tie.Need-enum-told
+enum-told c = search needs
+
+fault-part-requires : tie.Need-fault-part-requires
+fault-part-requires c κs = search needs
+
+returns : tie.Need-returns
+returns c =
+    let told = c .before .enum-told .given .1 in
+    let read = c .before .before .before in
+    refused-by (c .fault-part .ensures) told ∙ k-faulty (read .before .before .pre) (has-fault (read .k-field .ensures) told)
+
+cast-n-field : tie.Need-cast-n-field
+cast-n-field c = search needs
+
+add-n-field : tie.Need-add-n-field
+add-n-field c = search needs
+
+n-field-requires : tie.Need-n-field-requires
+n-field-requires c κs =
+    k-is _ _ _ (has-value (c .before .before .before .k-field .ensures) (c .before .k-read .given .1)) .1
+
+enum-known-n-read : tie.Need-enum-known-n-read
+enum-known-n-read c = search needs
+
+enum-told-2 : tie.Need-enum-told-2
+enum-told-2 c = search needs
+
+fault-part-requires-2 : tie.Need-fault-part-requires-2
+fault-part-requires-2 c κs = search needs
+
+returns-2 : tie.Need-returns-2
+returns-2 c =
+    let told = c .before .enum-told2 .given .1 in
+    let read = c .before .before .before in
+    let k = read .before .before in
+    refused-by (c .fault-part2 .ensures) told
+    ∙ n-faulty (k .before .before .before .before .pre) (has-value (k .before .before .k-field .ensures) (k .k-read .given .1))
+    (has-fault (read .n-field .ensures) told)
+
+read-memory-requires : tie.Need-read-memory-requires
+read-memory-requires c κs =
+    let n = c .before in
+    let k = n .before .before .before .before in
+    record {
+      opened = k .before .before .before .before .pre;
+      k-read = has-value (k .before .before .k-field .ensures) (k .k-read .given .1);
+      n-read = has-value (n .before .before .n-field .ensures) (n .n-read .given .1);
+    }
+
+returns-3 : tie.Need-returns-3
+returns-3 c = search needs
+
+pub read-sizes-spec : {M : Type 1} → statement M
+read-sizes-spec =
+    tie.close
+    (tie.spec
+    k-field-requires
+    enum-known-k-read
+    enum-told
+    fault-part-requires
+    returns
+    cast-n-field
+    add-n-field
+    n-field-requires
+    enum-known-n-read
+    enum-told-2
+    fault-part-requires-2
+    returns-2
+    read-memory-requires
+    returns-3)
