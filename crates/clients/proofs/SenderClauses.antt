@@ -13,7 +13,7 @@ use Rattle.card.specs.Reading.{readCard}
 use Rattle.encoder.specs.Outcome.{frame, published, SendOutcome}
 use Rattle.encoder.specs.Claims.{Claims}
 use Rattle.encoder.specs.Opening.{sessionFor, OpenPromise}
-use Rattle.encoder.specs.Sending.{openOf, historyNext, encodedOf, sendOf, sendTailOf}
+use Rattle.encoder.specs.Sending.{openOf, historyNext, frameNext, encodedOf, sendOf, sendTailOf}
 use Rattle.encoder.specs.Example.{SendsP}
 use Rattle.encoder.specs.declared.Opened.{Opened}
 use Rattle.encoder.specs.declared.Sent.{Sent}
@@ -36,7 +36,7 @@ module _ (r : Opened) (promise : OpenPromise cardP r) where
   -- the tail's first frame after an information frame, each a call of its own
   pub tail-after : (first second : Sent) → published first ≡ sendOf (r .session) 1 → published second ≡ sendTailOf (first .session)
       → published second .outcome ≡ frame 2
-  unfolding sumBelow upTo bit fromDigits dot generatorMask shiftIn historyBy parityBy digitBy frameBy openOf historyNext encodedOf sendOf sendTailOf
+  unfolding sumBelow upTo bit fromDigits dot generatorMask shiftIn historyBy parityBy digitBy frameBy openOf historyNext frameNext encodedOf sendOf sendTailOf
   tail-after first second a b =
       ap (λ (x : SendOutcome). x .outcome) b
       ∙ ap (λ (x : SendOutcome). sendTailOf (x .session) .outcome) a
