@@ -58,12 +58,12 @@ after go stop (fault n o) = stop n o
 abbrev pub refusedPart : ℕ → ℕ → PartOutcome
 refusedPart n o = record { outcome = refused n o; at = 0; card = emptyCard }
 
--- the card's byte 0 and number
+-- byte 0 and the card number are read, and are these
 pub record Opened (bs : List ℕ) (map number : ℕ) : Type 0 where
   pub map-read : byteField bs 0 0 3 5 ≡ value map
   pub number-read : byteField bs 1 0 255 1 ≡ value number
 
--- .. with its k and n
+-- .. and so are k and n
 pub record Sized (bs : List ℕ) (map number k n : ℕ) : Type 0 where
   pub opened : Opened bs map number
   pub k-read : kField bs (map % 2) ≡ value k

@@ -43,7 +43,7 @@ pub(crate) fn refused_part(verdict: Verdict) -> Part
     }
 }
 
-// The fault of a field as the part that it ends.
+// The part that ends at the fault of a field.
 fn fault_part(field: FieldRead) -> Part
     ensures { λ r. ⌜ r ≡ record { verdict = verdictOf field; at = 0; card = emptyCard } ⌝ }
 {

@@ -9,6 +9,7 @@ use Rattle.orthogonal.specs.declared.Judgement.{Judgement}
 use Rattle.orthogonal.specs.declared.Judgement.the-variants.{Stands, Fails}
 use Rattle.orthogonal.specs.declared.Judged.{Judged}
 
+-- the published number of each failure
 abbrev pub failureNumber : Failure → ℕ
 failureNumber OwnDigitUntouched = 8
 failureNumber ErrorTouchedBefore = 9
