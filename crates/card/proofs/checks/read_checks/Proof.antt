@@ -247,7 +247,7 @@ settled c =
     tables-broken _ _ _ _ (w .17 ∙ (w .16 .ensures ∙ ap verdictOf (w .15 .given .1)))
     (masks-stop (w .11 .inv) (w .12 .taken) (has-fault (w .13 .ensures) (w .15 .given .1))))
     (λ w.
-    tables-failed _ _ _ _ (w .21) (w .20 .ensures)
+    tables-failed _ _ _ _ {o = w .5 .at} (w .21) (w .20 .ensures)
     (check-stop (w .11 .inv) (w .12 .left) (w .15 .ensures) (w .16 .ensures) (ap judgementOf (w .18 .given .1)) (failure-least (w .18 .given .0 .0)))))))
     (c .card-test .came)
 
