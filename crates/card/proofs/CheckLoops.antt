@@ -12,9 +12,10 @@ use Rattle.bits.proofs.Cases.{same-or-not}
 use Rattle.bits.proofs.Lists.{zeros-at, snoc-last, snoc-other}
 use Rattle.orthogonal.specs.ErrorMasks.{errorsBy, judgeBy}
 use Rattle.orthogonal.specs.Judgements.{CheckJudged}
+use Rattle.orthogonal.specs.Judgements.CheckOutcome.{stands, fails}
 use Rattle.card.specs.Refusals.{numberOf}
 use Rattle.card.specs.Reading.{byteField, standingMask, judge}
-use Rattle.card.specs.Reading.Field.{value}
+use Rattle.card.specs.Reading.Field.{value, bad}
 use Rattle.card.specs.Parts.{checkNumber, PartOutcome, refusedPart}
 use Rattle.code.specs.declared.Card.{Card}
 use Rattle.card.specs.declared.Refusal.{Refusal}
@@ -23,7 +24,8 @@ use Rattle.card.specs.declared.Verdict.the-variants.{Accepted, Refused}
 use Rattle.card.proofs.Judging.{Union, union-none, judged-same, judged-union}
 use Rattle.card.proofs.FieldValues.{byte-is, standing-inside, standing-within}
 use Rattle.card.proofs.HeadStages.{map-limit}
-use Rattle.card.proofs.RestChecks.{tablesPart, restStreams, restChecks, restMasks, streams-turn, checks-turn, checks-end, check-turn, check-stands}
+use Rattle.card.proofs.RestChecks.{tablesPart, restStreams, restChecks, restMasks, streams-turn, streams-fault, streams-end, checks-turn, checks-fault, checks-end}
+use Rattle.card.proofs.RestChecks.{check-turn, check-fault, check-stands, check-fails}
 
 -- what the reader of the head and the generators leaves
 pub record Limits (c : Card) : Type 0 where
@@ -122,13 +124,13 @@ module _ {bs : List ℕ} {c : Card} {r : PartOutcome} {i count : ℕ} {counts : 
   all-seen : length (v .seen) ≡ c .p
   all-seen = v .seen-are .many ∙ le-antisymm (v .mask-most) whole
 
-  pub judged-number : judge c i (v .earlier) (v .seen) ≡ checkNumber (judged .outcome)
+  judged-number : judge c i (v .earlier) (v .seen) ≡ checkNumber (judged .outcome)
   judged-number =
       let l = v .limits in
       let s = v .seen-are in
       judged-same c (l .n-most) (l .k-most) (l .m-most) (v .seen) masks all-seen (s .within) (s .same) i (v .stream-lt) (v .earlier) touched (v .union) es ej
 
-  pub judged-errors : checkNumber (judged .outcome) ≡ 0 → Union c i (v .seen ∷ v .earlier) (judged .touched)
+  judged-errors : checkNumber (judged .outcome) ≡ 0 → Union c i (v .seen ∷ v .earlier) (judged .touched)
   judged-errors =
       let l = v .limits in
       let s = v .seen-are in
@@ -146,7 +148,7 @@ seen-more {m} {masks} {j} {seen} {v} l h s =
           (λ e. getD-set-other masks j n v 0 e ∙ s .same n ∙ sym (snoc-other seen v n (λ q. e (q ∙ s .many)))) (same-or-not n j);
     }
 
--- ---- the turns
+-- ---- the turns, faults and ends
 module _ {bs : List ℕ} {c : Card} {r : PartOutcome} {verdict : Verdict} {counts checks : List ℕ} {at i : ℕ} where
   pub checks-begin : {count : ℕ} → AtStreams bs c r verdict counts checks at i → i < c .k → byteField bs at 1 16 7 ≡ value count
       → AtChecks bs c r i count (set counts i count) verdict checks (replicate 8 0) (at + 1) 0
@@ -165,6 +167,12 @@ module _ {bs : List ℕ} {c : Card} {r : PartOutcome} {verdict : Verdict} {count
         union = union-none c i;
         same = sym (streams-turn bs c i counts checks at l e) ∙ v .same;
       }
+
+  pub streams-stop : {n o : ℕ} → AtStreams bs c r verdict counts checks at i → i < c .k → byteField bs at 1 16 7 ≡ bad n o → refusedPart n o ≡ r
+  streams-stop v l e = sym (streams-fault bs c i counts checks at l e) ∙ v .same
+
+  pub streams-whole : AtStreams bs c r verdict counts checks at i → c .k ≤ i → tablesPart c counts checks at ≡ r
+  streams-whole v l = sym (streams-end bs c i counts checks at l) ∙ v .same
 
   module _ {count q : ℕ} {touched : List ℕ} (v : AtChecks bs c r i count counts verdict checks touched at q) where
     pub masks-begin : {map : ℕ} → q < count → byteField bs at 0 (1 * 2 ^ c .p % 4294967296 - 1) 5 ≡ value map
@@ -187,6 +195,9 @@ module _ {bs : List ℕ} {c : Card} {r : PartOutcome} {verdict : Verdict} {count
           seen-are = record { many = refl; within = λ n. pow-pos _; same = λ n. zeros-at 8 n };
           same = sym (checks-turn bs c i count q (v .earlier) counts checks at l (map-limit bs at (c .p) (v .limits .p-most) e)) ∙ v .same;
         }
+
+    pub checks-stop : {n o : ℕ} → q < count → byteField bs at 0 (1 * 2 ^ c .p % 4294967296 - 1) 5 ≡ bad n o → refusedPart n o ≡ r
+    checks-stop l e = sym (checks-fault bs c i count q (v .earlier) counts checks at l (map-limit bs at (c .p) (v .limits .p-most) e)) ∙ v .same
 
     pub streams-next : count ≤ q → AtStreams bs c r verdict counts checks at (i + 1)
     streams-next l =
@@ -222,22 +233,30 @@ module _ {bs : List ℕ} {c : Card} {r : PartOutcome} {verdict : Verdict} {count
           same = sym (check-turn bs c i count q (v .earlier) counts place (v .seen) j checks rest at l e) ∙ v .same;
         }
 
-    pub checks-next : c .p ≤ j → {errors : List ℕ} {judged : CheckJudged} → errors ≡ errorsBy (c .generators) masks (c .k) (c .p) (c .m) → judged ≡ judgeBy errors touched i
-        → checkNumber (judged .outcome) ≡ 0 → AtChecks bs c r i count counts verdict checks (judged .touched) at (q + 1)
-    checks-next whole es ej z =
-        record {
-          limits = v .limits;
-          stream-lt = v .stream-lt;
-          check-most = next-most (v .check-lt);
-          count-most = v .count-most;
-          inside = v .inside;
-          long-counts = v .long-counts;
-          long-checks = v .long-checks;
-          unbroken = v .unbroken;
-          earlier = v .seen ∷ v .earlier;
-          union = judged-errors v whole es ej z;
-          same = sym (check-stands bs c i count q (v .earlier) counts place (v .seen) j checks rest at whole (judged-number v whole es ej ∙ z)) ∙ v .same;
-        }
+    pub masks-stop : {n o : ℕ} → j < c .p → standingMask bs at (c .m) (rest % 2) ≡ bad n o → refusedPart n o ≡ r
+    masks-stop l e = sym (check-fault bs c i count q (v .earlier) counts place (v .seen) j checks rest at l e) ∙ v .same
+
+    -- the check is whole, and is judged
+    module _ (whole : c .p ≤ j) {errors : List ℕ} {judged : CheckJudged} (es : errors ≡ errorsBy (c .generators) masks (c .k) (c .p) (c .m)) (ej : judged ≡ judgeBy errors touched i) where
+      pub checks-next : judged .outcome ≡ stands → AtChecks bs c r i count counts verdict checks (judged .touched) at (q + 1)
+      checks-next e =
+          record {
+            limits = v .limits;
+            stream-lt = v .stream-lt;
+            check-most = next-most (v .check-lt);
+            count-most = v .count-most;
+            inside = v .inside;
+            long-counts = v .long-counts;
+            long-checks = v .long-checks;
+            unbroken = v .unbroken;
+            earlier = v .seen ∷ v .earlier;
+            union = judged-errors v whole es ej (ap checkNumber e);
+            same = sym (check-stands bs c i count q (v .earlier) counts place (v .seen) j checks rest at whole (judged-number v whole es ej ∙ ap checkNumber e)) ∙ v .same;
+          }
+
+      pub check-stop : {n : ℕ} → judged .outcome ≡ fails n → 1 ≤ n → refusedPart n place ≡ r
+      check-stop e l =
+          sym (check-fails bs c i count q (v .earlier) counts place (v .seen) j checks rest at whole (judged-number v whole es ej ∙ ap checkNumber e) (λ z. omega arith)) ∙ v .same
 
 -- ---- what the loops leave
 abbrev pub leftTables : Card → Verdict → List ℕ → List ℕ → ℕ → PartOutcome

@@ -6,18 +6,17 @@ use native.Mathlib.Omega.{arith}
 use lib.Pow.{pow-pos}
 use denote.Ref.{now}
 use Rattle.orthogonal.specs.Judgements.{judgementOf}
-use Rattle.orthogonal.specs.declared.Judgement.{Judgement}
 use Rattle.orthogonal.proofs.ErrorMasks.{failure-least}
 use Rattle.card.specs.Outcome.{outcomeOf}
 use Rattle.card.specs.Fields.{emptyCard}
 use Rattle.card.specs.Reading.{readStreams}
-use Rattle.card.specs.Parts.{checkNumber, verdictOf, partOf, checksPart}
+use Rattle.card.specs.Parts.{verdictOf, partOf, checksPart}
 use Rattle.card.specs.declared.Verdict.{Verdict}
 use Rattle.card.proofs.FieldValues.{has-value, has-fault, byte-is, standing-inside}
-use Rattle.card.proofs.HeadStages.{top-map, map-limit}
-use Rattle.card.proofs.RestChecks.{streams-start, streams-end, streams-fault, checks-fault, check-fault, check-fails}
-use Rattle.card.proofs.CheckLoops.{AtStreams, AtChecks, AtMasks, place-of, judged-number, checks-begin, masks-begin, masks-next, checks-next, streams-next}
-use Rattle.card.proofs.CheckLoops.{leftTables, tables-ended, tables-broken, tables-failed}
+use Rattle.card.proofs.HeadStages.{top-map}
+use Rattle.card.proofs.RestChecks.{streams-start}
+use Rattle.card.proofs.CheckLoops.{AtStreams, AtChecks, AtMasks, place-of, checks-begin, masks-begin, masks-next, checks-next, streams-next}
+use Rattle.card.proofs.CheckLoops.{streams-whole, streams-stop, checks-stop, masks-stop, check-stop, leftTables, tables-ended, tables-broken, tables-failed}
 use borrow.Author.Needs.{needs}
 use Rattle.card.proofs.checks.read_checks.Statement.{statement}
 use Rattle.card.proofs.checks.read_checks.Tie as tie
@@ -217,7 +216,7 @@ loop-again c =
     let errors = judged .before in
     let masks = errors .before .before .before in
     checks-next (masks .before .loop2 .inv) (masks .loop2-test .left) (errors .errors-by .ensures) (judged .judge .ensures)
-    (ap (λ (x : Judgement). checkNumber (judgementOf x)) (c .before .enum-told4 .given .1))
+    (ap judgementOf (c .before .enum-told4 .given .1))
 
 add-i : tie.Need-add-i Inv-loop2 μ-loop2 Inv-loop μ-loop Inv-card μ-card
 add-i c = omega arith
@@ -234,27 +233,22 @@ settled : (c : tie.Left-card Inv-loop2 μ-loop2 Inv-loop μ-loop Inv-card μ-car
     leftTables (a .card) (c .card-test .verdict) (c .card-test .counts) (c .card-test .checks) (c .card-test .at)
     ≡ checksPart (a .card) (readStreams (now (a .bytes)) (a .card) (a .card .k) 0 (a .start))
 settled c =
-    let v = c .before .card .inv in
-    ⊎-elim
-    (λ w. tables-ended _ (w .1) (w .2) (w .3) (w .4) (v .unbroken) (sym (streams-end _ _ _ _ _ _ (w .0 .left)) ∙ v .same))
+    ⊎-elim (λ w. tables-ended _ (w .1) (w .2) (w .3) (w .4) (c .before .card .inv .unbroken) (streams-whole (c .before .card .inv) (w .0 .left)))
     (⊎-elim
     (λ w.
     tables-broken _ _ _ _ (w .5 ∙ (w .4 .ensures ∙ ap verdictOf (w .3 .given .1)))
-    (sym (streams-fault _ _ _ _ _ _ (w .0 .taken) (has-fault (w .1 .ensures) (w .3 .given .1))) ∙ v .same))
+    (streams-stop (c .before .card .inv) (w .0 .taken) (has-fault (w .1 .ensures) (w .3 .given .1))))
     (⊎-elim
     (λ w.
     tables-broken _ _ _ _ (w .11 ∙ (w .10 .ensures ∙ ap verdictOf (w .9 .given .1)))
-    (sym (checks-fault _ _ _ _ _ _ _ _ _ (w .6 .taken) (map-limit _ _ _ (omega arith) (has-fault (w .7 .ensures) (w .9 .given .1)))) ∙ w .5 .inv .same))
+    (checks-stop (w .5 .inv) (w .6 .taken) (has-fault (w .7 .ensures) (w .9 .given .1))))
     (⊎-elim
     (λ w.
     tables-broken _ _ _ _ (w .17 ∙ (w .16 .ensures ∙ ap verdictOf (w .15 .given .1)))
-    (sym (check-fault _ _ _ _ _ _ _ _ _ _ _ _ _ (w .12 .taken) (has-fault (w .13 .ensures) (w .15 .given .1))) ∙ w .11 .inv .same))
+    (masks-stop (w .11 .inv) (w .12 .taken) (has-fault (w .13 .ensures) (w .15 .given .1))))
     (λ w.
-    let t = w .11 .inv in
-    let e = judged-number t (w .12 .left) (w .15 .ensures) (w .16 .ensures)
-    ∙ ap (λ (x : Judgement). checkNumber (judgementOf x)) (w .18 .given .1) in
-    tables-failed _ _ _ _ (w .21) (w .20 .ensures)
-    (sym (check-fails _ _ _ _ _ _ _ _ _ _ _ _ _ (w .12 .left) e (λ z. let l = failure-least (w .18 .given .0 .0) in omega arith)) ∙ t .same)))))
+    tables-failed _ _ _ _ {o = w .5 .at} (w .21) (w .20 .ensures)
+    (check-stop (w .11 .inv) (w .12 .left) (w .15 .ensures) (w .16 .ensures) (ap judgementOf (w .18 .given .1)) (failure-least (w .18 .given .0 .0)))))))
     (c .card-test .came)
 
 enum-told-5 : tie.Need-enum-told-5 Inv-loop2 μ-loop2 Inv-loop μ-loop Inv-card μ-card

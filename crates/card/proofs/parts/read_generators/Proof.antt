@@ -3,7 +3,6 @@ use Prim.Native.Nat.{_-_}
 use mathlib.Core.Path.{_≡_, refl, sym, ap, _∙_}
 use mathlib.Core.Logic.{⊎-elim}
 use native.Mathlib.Omega.{arith}
-use lib.ListN.{length-set}
 use denote.Ref.{now}
 use Rattle.card.specs.Outcome.{outcomeOf}
 use Rattle.card.specs.Fields.{emptyCard}
@@ -12,7 +11,7 @@ use Rattle.card.specs.Parts.{verdictOf, partOf, generatorsPart}
 use Rattle.card.specs.declared.Verdict.{Verdict}
 use Rattle.card.proofs.FieldValues.{has-value, has-fault, map-is, standing-inside}
 use Rattle.card.proofs.HeadStages.{refused-by, few-bits}
-use Rattle.card.proofs.RestGenerators.{AtRows, AtRow, rows-start, map-fault, rows-end, rows-turn, row-fault, row-end, row-turn, leftRows, left-ended, left-broken}
+use Rattle.card.proofs.RestGenerators.{AtRows, AtRow, map-fault, rows-begin, row-begin, row-next, rows-next, rows-whole, row-stop, leftRows, left-ended, left-broken}
 use borrow.Author.Needs.{needs}
 use Rattle.card.proofs.parts.read_generators.Statement.{statement}
 use Rattle.card.proofs.parts.read_generators.Tie as tie
@@ -57,25 +56,10 @@ add-at : tie.Need-add-at Inv-loop μ-loop Inv-rows μ-rows
 add-at c = let h = map-is _ _ _ _ (has-value (c .before .before .before .map-field .ensures) (c .before .map-read .given .1)) .inside in omega arith
 
 rows-holds : tie.Need-rows-holds Inv-loop μ-loop Inv-rows μ-rows
-rows-holds c =
-    record {
-      row-most = omega arith;
-      inside = map-is _ _ _ _ (has-value (c .before .before .before .map-field .ensures) (c .before .map-read .given .1)) .inside;
-      long = refl;
-      unbroken = refl;
-      same = rows-start _ _ _ (has-value (c .before .before .before .map-field .ensures) (c .before .map-read .given .1));
-    }
+rows-holds c = rows-begin _ _ _ (has-value (c .before .before .before .map-field .ensures) (c .before .map-read .given .1))
 
 loop-holds : tie.Need-loop-holds Inv-loop μ-loop Inv-rows μ-rows
-loop-holds c =
-    let v = c .before .rows .inv in
-    record {
-      mask-most = omega arith;
-      inside = v .inside;
-      long = v .long;
-      unbroken = v .unbroken;
-      same = sym (rows-turn _ _ _ _ _ _ (c .rows-test .taken)) ∙ v .same;
-    }
+loop-holds c = row-begin (c .before .rows .inv) (c .rows-test .taken)
 
 standing-mask-requires : tie.Need-standing-mask-requires Inv-loop μ-loop Inv-rows μ-rows
 standing-mask-requires c κs = search needs
@@ -111,7 +95,8 @@ add-at-2 : tie.Need-add-at-2 Inv-loop μ-loop Inv-rows μ-rows
 add-at-2 c =
     let v = c .before .before .before .before .before .loop .inv in
     let mask = has-value (c .before .before .before .standing-mask .ensures) (c .before .mask-read .given .1) in
-    let h = standing-inside _ _ _ _ _ (v .inside) (omega arith) mask in omega arith
+    let h = standing-inside _ _ _ _ _ (v .inside) (omega arith) mask in
+    omega arith
 
 add-j : tie.Need-add-j Inv-loop μ-loop Inv-rows μ-rows
 add-j c = omega arith
@@ -121,15 +106,8 @@ loop-less c = omega arith
 
 loop-again : tie.Need-loop-again Inv-loop μ-loop Inv-rows μ-rows
 loop-again c =
-    let v = c .before .before .before .before .before .loop .inv in
-    let mask = has-value (c .before .before .before .standing-mask .ensures) (c .before .mask-read .given .1) in
-    record {
-      mask-most = omega arith;
-      inside = standing-inside _ _ _ _ _ (v .inside) (omega arith) mask;
-      long = simp length-set (v .long);
-      unbroken = v .unbroken;
-      same = sym (row-turn _ _ _ _ _ _ _ (c .before .before .before .before .loop-test .taken) mask) ∙ v .same;
-    }
+    row-next (c .before .before .before .before .before .loop .inv) (c .before .before .before .before .loop-test .taken)
+    (has-value (c .before .before .before .standing-mask .ensures) (c .before .mask-read .given .1))
 
 add-i : tie.Need-add-i Inv-loop μ-loop Inv-rows μ-rows
 add-i c = omega arith
@@ -138,15 +116,7 @@ rows-less : tie.Need-rows-less Inv-loop μ-loop Inv-rows μ-rows
 rows-less c = omega arith
 
 rows-again : tie.Need-rows-again Inv-loop μ-loop Inv-rows μ-rows
-rows-again c =
-    let v = c .before .loop .inv in
-    record {
-      row-most = omega arith;
-      inside = v .inside;
-      long = v .long;
-      unbroken = v .unbroken;
-      same = sym (row-end _ _ _ _ _ _ _ (c .loop-test .left)) ∙ v .same;
-    }
+rows-again c = rows-next (c .before .loop .inv) (c .before .before .rows-test .taken) (c .loop-test .left)
 
 -- where the ways out of the rows meet
 settled : (c : tie.Left-rows Inv-loop μ-loop Inv-rows μ-rows) →
@@ -154,11 +124,10 @@ settled : (c : tie.Left-rows Inv-loop μ-loop Inv-rows μ-rows) →
     leftRows (a .card) (c .rows-test .verdict) (c .rows-test .generators) (c .rows-test .at)
     ≡ generatorsPart (a .card) (readGenerators (now (a .bytes)) (a .start) (a .card .k) (a .card .p) (a .card .m))
 settled c =
-    ⊎-elim
-    (λ w. left-ended _ (w .1) (w .2) (w .4) (c .before .rows .inv .unbroken) (sym (rows-end _ _ _ _ _ _ (w .0 .left)) ∙ c .before .rows .inv .same))
+    ⊎-elim (λ w. left-ended _ (w .1) (w .2) (w .4) (c .before .rows .inv .unbroken) (rows-whole (c .before .rows .inv) (w .0 .left)))
     (λ w.
     left-broken _ _ _ (w .7 ∙ (w .6 .ensures ∙ ap verdictOf (w .5 .given .1)))
-    (sym (row-fault _ _ _ _ _ _ _ (w .2 .taken) (has-fault (w .3 .ensures) (w .5 .given .1))) ∙ w .1 .inv .same))
+    (row-stop (w .1 .inv) (w .2 .taken) (has-fault (w .3 .ensures) (w .5 .given .1))))
     (c .rows-test .came)
 
 enum-told-3 : tie.Need-enum-told-3 Inv-loop μ-loop Inv-rows μ-rows

@@ -1,5 +1,8 @@
 -- Byte 0 and the card number; the rest of the head is read where both have values.
-use mathlib.Core.Path.{_∙_}
+use mathlib.Core.Path.{_≡_, _∙_}
+use denote.Ref.{now}
+use Rattle.card.specs.Reading.{byteField}
+use Rattle.card.specs.Reading.Field.{value}
 use Rattle.card.proofs.FieldValues.{has-value, has-fault}
 use Rattle.card.proofs.HeadStages.{refused-by, map-faulty, number-faulty}
 use borrow.Author.Needs.{needs}
@@ -20,8 +23,12 @@ fault-part-requires c κs = search needs
 
 returns : tie.Need-returns
 returns c =
-    let told = c .before .enum-told .given .1 in
-    refused-by (c .fault-part .ensures) told ∙ map-faulty _ (has-fault (c .before .before .before .byte-field .ensures) told)
+    refused-by (c .fault-part .ensures) (c .before .enum-told .given .1)
+    ∙ map-faulty _ (has-fault (c .before .before .before .byte-field .ensures) (c .before .enum-told .given .1))
+
+-- byte 0 is read
+map-value : (c : tie.After-known-told) → byteField (now (c .before .before .before .before .before .args .bytes)) 0 0 3 5 ≡ value (c .before .map-read .given .0 .0)
+map-value c = has-value (c .before .before .before .byte-field .ensures) (c .before .map-read .given .1)
 
 byte-field-requires-2 : tie.Need-byte-field-requires-2
 byte-field-requires-2 c κs = search needs
@@ -37,19 +44,14 @@ fault-part-requires-2 c κs = search needs
 
 returns-2 : tie.Need-returns-2
 returns-2 c =
-    let told = c .before .enum-told2 .given .1 in
-    let read = c .before .before .before in
-    let map = read .before .before in
-    refused-by (c .fault-part2 .ensures) told
-    ∙ number-faulty _ (has-value (map .before .before .byte-field .ensures) (map .map-read .given .1)) (has-fault (read .byte-field2 .ensures) told)
+    refused-by (c .fault-part2 .ensures) (c .before .enum-told2 .given .1)
+    ∙ number-faulty _ (map-value (c .before .before .before .before)) (has-fault (c .before .before .before .byte-field2 .ensures) (c .before .enum-told2 .given .1))
 
 read-sizes-requires : tie.Need-read-sizes-requires
 read-sizes-requires c κs =
-    let number = c .before in
-    let map = number .before .before .before .before in
     record {
-      map-read = has-value (map .before .before .byte-field .ensures) (map .map-read .given .1);
-      number-read = has-value (number .before .before .byte-field2 .ensures) (number .number-read .given .1);
+      map-read = map-value (c .before .before .before .before);
+      number-read = has-value (c .before .before .before .byte-field2 .ensures) (c .before .number-read .given .1);
     }
 
 returns-3 : tie.Need-returns-3

@@ -33,9 +33,8 @@ fault-part-requires c κs = search needs
 
 returns : tie.Need-returns
 returns c =
-    let told = c .before .enum-told .given .1 in
-    let read = c .before .before .before in
-    refused-by (c .fault-part .ensures) told ∙ m-faulty (read .before .before .pre) (has-fault (read .byte-field .ensures) told)
+    refused-by (c .fault-part .ensures) (c .before .enum-told .given .1)
+    ∙ m-faulty (c .before .before .before .before .before .pre) (has-fault (c .before .before .before .byte-field .ensures) (c .before .enum-told .given .1))
 
 add-t10 : tie.Need-add-t10
 add-t10 c = search needs
@@ -56,8 +55,7 @@ cast-t17 c = search needs
 
 returns-2 : tie.Need-returns-2
 returns-2 c =
-    let read = c .before .before .before in
-    head-whole (read .before .before .pre) (has-value (read .byte-field .ensures) (c .before .m-read .given .1))
+    head-whole (c .before .before .before .before .before .pre) (has-value (c .before .before .before .byte-field .ensures) (c .before .m-read .given .1))
 
 pub read-memory-spec : {M : Type 1} → statement M
 read-memory-spec =

@@ -1,5 +1,9 @@
 -- k and n, after byte 0 and the card number; the rest of the head is read where both have values.
-use mathlib.Core.Path.{_∙_}
+use Prim.Native.Nat.{_%_}
+use mathlib.Core.Path.{_≡_, _∙_}
+use denote.Ref.{now}
+use Rattle.card.specs.Reading.{kField}
+use Rattle.card.specs.Reading.Field.{value}
 use Rattle.card.proofs.FieldValues.{has-value, has-fault, k-is}
 use Rattle.card.proofs.HeadStages.{refused-by, k-faulty, n-faulty}
 use borrow.Author.Needs.{needs}
@@ -20,9 +24,13 @@ fault-part-requires c κs = search needs
 
 returns : tie.Need-returns
 returns c =
-    let told = c .before .enum-told .given .1 in
-    let read = c .before .before .before in
-    refused-by (c .fault-part .ensures) told ∙ k-faulty (read .before .before .pre) (has-fault (read .k-field .ensures) told)
+    refused-by (c .fault-part .ensures) (c .before .enum-told .given .1)
+    ∙ k-faulty (c .before .before .before .before .before .pre) (has-fault (c .before .before .before .k-field .ensures) (c .before .enum-told .given .1))
+
+-- k is read
+k-value : (c : tie.After-known-told) →
+    let a = c .before .before .before .before .before .args in kField (now (a .bytes)) (a .map % 2) ≡ value (c .before .k-read .given .0 .0)
+k-value c = has-value (c .before .before .before .k-field .ensures) (c .before .k-read .given .1)
 
 cast-n-field : tie.Need-cast-n-field
 cast-n-field c = search needs
@@ -31,8 +39,7 @@ add-n-field : tie.Need-add-n-field
 add-n-field c = search needs
 
 n-field-requires : tie.Need-n-field-requires
-n-field-requires c κs =
-    k-is _ _ _ (has-value (c .before .before .before .k-field .ensures) (c .before .k-read .given .1)) .1
+n-field-requires c κs = k-is _ _ _ (k-value c) .1
 
 enum-known-n-read : tie.Need-enum-known-n-read
 enum-known-n-read c = search needs
@@ -45,21 +52,17 @@ fault-part-requires-2 c κs = search needs
 
 returns-2 : tie.Need-returns-2
 returns-2 c =
-    let told = c .before .enum-told2 .given .1 in
-    let read = c .before .before .before in
-    let k = read .before .before in
-    refused-by (c .fault-part2 .ensures) told
-    ∙ n-faulty (k .before .before .before .before .pre) (has-value (k .before .before .k-field .ensures) (k .k-read .given .1))
-    (has-fault (read .n-field .ensures) told)
+    let k = c .before .before .before .before in
+    refused-by (c .fault-part2 .ensures) (c .before .enum-told2 .given .1)
+    ∙ n-faulty (k .before .before .before .before .before .pre) (k-value k) (has-fault (c .before .before .before .n-field .ensures) (c .before .enum-told2 .given .1))
 
 read-memory-requires : tie.Need-read-memory-requires
 read-memory-requires c κs =
-    let n = c .before in
-    let k = n .before .before .before .before in
+    let k = c .before .before .before .before in
     record {
-      opened = k .before .before .before .before .pre;
-      k-read = has-value (k .before .before .k-field .ensures) (k .k-read .given .1);
-      n-read = has-value (n .before .before .n-field .ensures) (n .n-read .given .1);
+      opened = k .before .before .before .before .before .pre;
+      k-read = k-value k;
+      n-read = has-value (c .before .before .before .n-field .ensures) (c .before .n-read .given .1);
     }
 
 returns-3 : tie.Need-returns-3
