@@ -1,7 +1,7 @@
 -- The magnitude of a signed number of 32 digits, taken by way of 64. A signed local holds digits, so that each step reads the number back
 -- from them.
 -- Assumes nothing.
-use Prim.Native.Nat.{ℕ, zero, suc, _^_, _<_}
+use Prim.Native.Nat.{zero, suc, _^_, _<_}
 use mathlib.Core.Bool.{true, false}
 use mathlib.Core.Path.{_≡_, sym, ap, _∙_, subst}
 use native.Mathlib.Omega.{arith}

@@ -7,7 +7,6 @@ use mathlib.Core.List.{[], _∷_, _++_}
 use lib.IntN.{pos}
 use lib.ListN.{take}
 use Rattle.code.specs.Code.{sent}
-use Rattle.card.specs.Outcome.{Outcome}
 use Rattle.card.specs.Outcome.Outcome.{accepted, refused}
 use Rattle.card.specs.Reading.{readCard}
 use Rattle.majority.specs.Rule.{decoded}

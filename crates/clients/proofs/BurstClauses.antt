@@ -15,7 +15,7 @@ use Rattle.card.specs.Bench.{cardP}
 use Rattle.card.specs.Outcome.{CardOutcome}
 use Rattle.card.specs.Reading.{readCard}
 use Rattle.majority.specs.Rule.{syndrome, cleared, checkAt, votes, decide, decideFrame, decided, corrected, decoded}
-use Rattle.outcomes.specs.Outcome.{BurstOutcome, outcome, refusedOf, givenOf, underCard}
+use Rattle.outcomes.specs.Outcome.{outcome, refusedOf, givenOf, underCard}
 use Rattle.outcomes.specs.Sending.{sendUnder, sendOf}
 use Rattle.outcomes.specs.Receiving.{receiveUnder, receiveOf}
 use Rattle.outcomes.specs.Claims.{SentAs, CameOut, ComesOutAsSent}
@@ -23,7 +23,7 @@ use Rattle.outcomes.proofs.Outcomes.{under-sent}
 use Rattle.outcomes.proofs.Received.{receive-short, receive-given}
 use Rattle.outcomes.proofs.Edges.{edges}
 use Rattle.outcomes.proofs.Admissions.{admitted-P}
-use Rattle.outcomes.proofs.ReadP.{read-P}
+use Rattle.outcomes.proofs.ReadCards.{read-P}
 
 card-P : P ≡ readCard cardP .card
 card-P = sym (ap (λ (read : CardOutcome). read .card) read-P)

@@ -1,26 +1,25 @@
 -- What the clauses of `read_card`'s promise give for cards of the bench.
-use Prim.Native.Nat.{ℕ, zero, suc, _+_, _-_, _*_, _^_, _≤_, _<_}
+use Prim.Native.Nat.{ℕ, zero, suc, _+_, _-_, _^_, _<_}
 use mathlib.Core.Path.{_≡_, refl, ap, subst}
-use mathlib.Core.List.{List, [], _∷_}
+use mathlib.Core.List.{[], _∷_}
 use native.Mathlib.Omega.{arith}
 use lib.ListN.{getD}
-use Rattle.bits.specs.Sums.{sumBelow, upTo, back}
+use Rattle.bits.specs.Sums.{sumBelow, back}
 use Rattle.bits.specs.Digits.{bit}
 use Rattle.bits.proofs.Sums.{all-at-most, all-at-most-twice}
-use Rattle.code.specs.Bench.{s}
 use Rattle.code.specs.Code.{generator}
 use Rattle.code.specs.Checks.{count, checkMask, touchesInfo, touchesBy, touches, Orthogonal}
 use Rattle.code.proofs.Touches.{touches-le}
-use Rattle.card.specs.Bench.{cardP, cardT, checks}
+use Rattle.card.specs.Bench.{cardP}
 use Rattle.card.specs.Fields.{Fields, store, storeRows, storeChecks, storeStreams, storeCounts, cardOf}
 use Rattle.card.specs.Layout.{bytes4, stands, mapOf, layoutMasks, optional, layoutHead, allRows, layoutRows, layoutChecks, layoutStreams, layout, MasksIn, InLimits, Acceptable}
 use Rattle.card.specs.Outcome.{outcomeOf, CardOutcome}
-use Rattle.card.specs.Outcome.Outcome.{accepted, refused}
+use Rattle.card.specs.Outcome.Outcome.{accepted}
 use Rattle.card.specs.Promise.{CardPromise}
-use Rattle.card.specs.Reading.{byteField, kField, nField, mapField, wordAt, maskField, readHead, standingMask, readMasks, readRows, readGenerators, otherError, touchedBy, clashes, judge, readCheck, readChecks, readStreams, readFields, readCard}
 use Rattle.card.specs.declared.CardRead.{CardRead}
 use Rattle.card.proofs.Acceptance.{reads-back}
 use Rattle.card.proofs.RefusedCard.{not-both}
+use Rattle.outcomes.proofs.ReadCards.{wrongT, read-wrong-T}
 use Rattle.clients.specs.Cards.{fieldsP}
 
 -- ---- P is acceptable, shown without reading it
@@ -92,17 +91,9 @@ acceptable-P = record { limits = limits-P; orthogonal = orthogonal; bytes-are = 
 pub accepted-P : (r : CardRead) → CardPromise cardP r → outcomeOf (r .verdict) ≡ accepted
 accepted-P r promise = promise .all-these fieldsP acceptable-P
 
--- T with s0, s2 for stream 1
-abbrev pub wrongT : List ℕ
-wrongT = cardT (s 0 ∷ s 2 ∷ []) (s 0 ∷ s 2 ∷ [])
-
-refused-T : readCard wrongT .outcome ≡ refused 8 21
-unfolding sumBelow back bit generator count checkMask touchesInfo touchesBy store storeRows storeChecks storeStreams storeCounts cardOf byteField kField nField mapField wordAt maskField readHead standingMask readMasks readRows readGenerators otherError touchedBy clashes judge readCheck readChecks readStreams readFields readCard checks
-refused-T = refl
-
 -- no fields are laid out as these bytes within the limits and with orthogonal checks
 unacceptable-T : (f : Fields) → Acceptable wrongT f → ⊥
-unacceptable-T f a = not-both (ap (λ (r : CardOutcome). r .outcome) (reads-back wrongT f a)) refused-T
+unacceptable-T f a = not-both (ap (λ (r : CardOutcome). r .outcome) (reads-back wrongT f a)) read-wrong-T
 
 pub not-accepted-T : (r : CardRead) → CardPromise wrongT r → outcomeOf (r .verdict) ≡ accepted → ⊥
 not-accepted-T r promise e = let found = promise .only-these e in unacceptable-T (found .0) (found .1 .acceptable)

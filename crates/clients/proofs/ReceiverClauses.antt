@@ -20,7 +20,7 @@ use Rattle.decoder.specs.declared.Received.{Received}
 use Rattle.decoder.specs.declared.Session.{Session}
 use Rattle.decoder.proofs.Example.{receives-P}
 use Rattle.clients.specs.Closed.{ReceivesNothing}
-use Rattle.outcomes.proofs.ReadP.{read-P, read-short-P}
+use Rattle.outcomes.proofs.ReadCards.{read-P, read-short-P}
 
 module _ (r : Opened) (promise : OpenPromise cardP r) where
   pub opened : outcomeOf (r .verdict) ≡ accepted

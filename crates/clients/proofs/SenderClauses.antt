@@ -1,5 +1,5 @@
 -- What the clauses of the sender's promises give for card P.
-use mathlib.Core.Path.{_≡_, refl, ap, _∙_, subst}
+use mathlib.Core.Path.{_≡_, ap, _∙_, subst}
 use lib.ListN.{take}
 use Rattle.bits.specs.Sums.{sumBelow, upTo}
 use Rattle.bits.specs.Digits.{bit, fromDigits, dot}
@@ -9,7 +9,6 @@ use Rattle.code.specs.declared.Card.{Card}
 use Rattle.card.specs.Bench.{cardP}
 use Rattle.card.specs.Outcome.{outcomeOf, CardOutcome}
 use Rattle.card.specs.Outcome.Outcome.{accepted}
-use Rattle.card.specs.Reading.{readCard}
 use Rattle.encoder.specs.Outcome.{frame, published, SendOutcome}
 use Rattle.encoder.specs.Claims.{Claims}
 use Rattle.encoder.specs.Opening.{sessionFor, OpenPromise}
@@ -20,7 +19,7 @@ use Rattle.encoder.specs.declared.Sent.{Sent}
 use Rattle.encoder.specs.declared.Session.{Session}
 use Rattle.encoder.proofs.Example.{sends-P}
 use Rattle.clients.specs.Closed.{SendsNothing}
-use Rattle.outcomes.proofs.ReadP.{read-P, read-short-P}
+use Rattle.outcomes.proofs.ReadCards.{read-P, read-short-P}
 
 module _ (r : Opened) (promise : OpenPromise cardP r) where
   pub opened : outcomeOf (r .verdict) ≡ accepted

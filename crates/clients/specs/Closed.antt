@@ -1,6 +1,5 @@
 -- What a session refuses that was opened with the first 19 bytes of card P: document 01, "The first 19 bytes of P: 1 at 19", and every call after it.
 -- Assumes nothing.
-use Prim.Native.Nat.{ℕ}
 use mathlib.Core.Path.{_≡_}
 use Rattle.card.specs.Outcome.{outcomeOf}
 use Rattle.card.specs.Outcome.Outcome.{refused}

@@ -2,7 +2,7 @@
 -- All four have one parity stream. The document gives Q, R and T no card numbers; they have those after P's.
 -- Assumes nothing.
 use Prim.Native.Nat.{ℕ, _+_, _^_}
-use mathlib.Core.List.{List, [], _∷_, _++_}
+use mathlib.Core.List.{List, _∷_, _++_}
 use lib.ListN.{replicate}
 use Rattle.code.specs.declared.Card.{Card}
 

@@ -13,11 +13,10 @@ use Rattle.code.specs.Registers.{generatorMask, shiftIn, historyBy, parityBy}
 use Rattle.majority.specs.Rule.{syndrome, cleared, checkAt, votes, decide, decideFrame, decided, corrected, decoded, figureBy}
 use Rattle.majority.specs.Voting.{checkBy, votesBy, majorityBy, decideBy}
 use Rattle.majority.proofs.Edges.{edges}
-use Rattle.decoder.specs.Answers.{Given}
 use Rattle.decoder.specs.Registers.{syndromeBy, withSyndromes, correctedBy, feedbackBy, fedBackBy}
 use Rattle.decoder.specs.Readings.{digitOfLevel, digitOf, digitIn, faultIn, faults, frameRead, readByteOf, readFrameOf}
 use Rattle.decoder.specs.Receive.{openOf, historyWith, syndromesWith, withFrame, errorsOf, handingOf, takenOf, refusedOf, yieldTaken, receiveOf, receiveByteOf, receiveReadingsOf}
-use Rattle.decoder.specs.Calls.{Call, numberIn, frameIn, readable, taken, takenFrames, replyOf, answersBy, handedOut}
+use Rattle.decoder.specs.Calls.{Call, numberIn, frameIn, readable, taken, takenFrames, replyOf, answersBy}
 use Rattle.decoder.specs.Claims.{Claims}
 use Rattle.decoder.specs.Example.{callsP-first, callsP, callsP-two-errors, ReceivesP}
 use Rattle.decoder.specs.declared.Session.{Session}

@@ -1,9 +1,8 @@
 -- What follows for a session opened with card P (document 01, "Cards on the bench") from each of its claims: a client of every clause, so that none can
 -- be dropped or weakened unnoticed.
 -- Assumes nothing.
-use Prim.Native.Nat.{ℕ}
 use mathlib.Core.Path.{_≡_}
-use mathlib.Core.Bool.{true, false}
+use mathlib.Core.Bool.{false}
 use mathlib.Core.List.{List, [], _∷_, _++_}
 use lib.ListN.{replicate}
 use lib.IntN.{pos}

@@ -4,7 +4,7 @@ use mathlib.Core.Path.{_≡_, refl, ap, ap₂, _∙_}
 use mathlib.Core.List.{List, [], _∷_}
 use lib.ListN.{length, take}
 use Rattle.bits.specs.Sums.{sumBelow, upTo, back}
-use Rattle.bits.specs.Digits.{bit, fromDigits, dot}
+use Rattle.bits.specs.Digits.{bit, fromDigits}
 use Rattle.code.specs.Bench.{P}
 use Rattle.code.specs.Code.{generator, digit, parityAt, withTail, sentDigit, sentFrame, sent}
 use Rattle.code.specs.Registers.{shiftIn, historyBy}

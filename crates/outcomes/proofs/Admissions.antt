@@ -13,7 +13,7 @@ use Rattle.card.specs.Reading.{readCard}
 use Rattle.card.proofs.RefusedCard.{not-both}
 use Rattle.outcomes.specs.Claims.{Admitted}
 use Rattle.outcomes.specs.Admissions.{Admissions}
-use Rattle.outcomes.proofs.ReadP.{read-P, read-short-P}
+use Rattle.outcomes.proofs.ReadCards.{read-P, read-short-P}
 
 -- P holds one frame back, and has two streams
 memory-P : readCard cardP .card .m ≡ 1

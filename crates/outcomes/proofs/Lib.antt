@@ -1,7 +1,7 @@
 -- bursts
 pub mod Outcomes
 pub mod Received
-pub mod ReadP
+pub mod ReadCards
 pub mod Edges
 pub mod Admissions
 -- the listing

@@ -1,7 +1,5 @@
-use Prim.Native.Nat.{_<_}
 use mathlib.Core.Path.{refl, sym}
 use mathlib.Core.Logic.{inl, inr}
-use native.Mathlib.Omega.{arith}
 use borrow.Author.Needs.{needs}
 use Rattle.majority.proofs.Voting.{decide-none}
 use Rattle.burst.proofs.Deciding.{decided-small}
