@@ -2,7 +2,7 @@
 ghost use mathlib.Core.Path.{_≡_};
 ghost use Rattle.card.specs.Outcome.{outcomeOf};
 ghost use Rattle.card.specs.Outcome.Outcome.{accepted};
-ghost use Rattle.decoder.specs.Example.{ReceivesP};
+ghost use Rattle.decoder.specs.Example.{ReceivesP, ReceivesT};
 ghost use Rattle.encoder.specs.Example.{SendsP};
 ghost use Rattle.encoder.specs.Outcome.{published, frame};
 ghost use Rattle.clients.specs.Closed.{ReceivesNothing, SendsNothing};
@@ -14,6 +14,17 @@ pub fn p_receives() -> decoder::Opened
     ensures { λ r. ⌜ (outcomeOf (r .verdict) ≡ accepted) × ReceivesP (r .session) ⌝ }
 {
     decoder::open(&P)
+}
+
+// A receiver of T, whose information is on two streams.
+pub fn t_receives() -> decoder::Opened
+    ensures { λ r. ⌜ ReceivesT (r .session) ⌝ }
+{
+    decoder::open(
+        b"\x03\x0a\x02\x03\x02\x03\x00\x03\x00\x00\x00\x05\x00\x00\x00\
+          \x02\x01\x01\x00\x00\x00\x01\x02\x00\x00\x00\
+          \x02\x01\x01\x00\x00\x00\x01\x04\x00\x00\x00",
+    )
 }
 
 // A sender of P: the code's frames, for lists of calls.

@@ -1,4 +1,4 @@
--- What follows for a session opened with card P (document 01, "Cards on the bench") from each of its claims: a client of every clause, so that none can
+-- What follows for sessions opened with cards P and T (document 01, "Cards on the bench") from their claims: a client of every clause, so that none can
 -- be dropped or weakened unnoticed.
 -- Assumes nothing.
 use mathlib.Core.Path.{_≡_}
@@ -43,3 +43,11 @@ pub record ReceivesP (s : Session) : Type 0 where
   pub answers : takenAnswers s callsP ≡ waiting ∷ frame 1 ∷ frame 0 ∷ frame 1 ∷ []
   -- the syndrome that the wrong digit leaves, before it is fed back
   pub figure : linkFigureOf (sessionAfter s callsP-first) ≡ 1
+
+-- what T sends for 3, information on both of its streams, with two parity digits wrong
+abbrev pub callsT : List Call
+callsT = byte 10 3 ∷ byte 10 0 ∷ byte 10 0 ∷ []
+
+-- it comes out as sent
+abbrev pub ReceivesT : Session → Type 0
+ReceivesT s = handedOut s callsT ≡ 3 ∷ []

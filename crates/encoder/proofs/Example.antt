@@ -7,9 +7,8 @@ use Rattle.bits.specs.Sums.{sumBelow, upTo, back}
 use Rattle.bits.specs.Digits.{bit, fromDigits}
 use Rattle.code.specs.Bench.{P}
 use Rattle.code.specs.Code.{generator, digit, parityAt, withTail, sentDigit, sentFrame, sent}
-use Rattle.code.specs.Registers.{shiftIn, historyBy}
-use Rattle.encoder.specs.Sending.{openOf, refusedOf, historyNext, encodedOf, sendOf, sendTailOf}
-use Rattle.encoder.specs.Calls.{Call, callOf, framesGiven, takes, informationTaken, tailTaken}
+use Rattle.encoder.specs.Sending.{openOf, refusedOf, encodedOf, sendOf, sendTailOf}
+use Rattle.encoder.specs.Calls.{Call, framesGiven, takes, informationTaken, tailTaken}
 use Rattle.encoder.specs.Claims.{Claims}
 use Rattle.encoder.specs.Example.{callsP-first, callsP, SendsP}
 use Rattle.encoder.specs.declared.Session.{Session}
@@ -17,7 +16,7 @@ use Rattle.encoder.specs.declared.Session.{Session}
 -- what the calls take: those that are refused take nothing
 taken-by : (informationTaken (openOf P) callsP ≡ 1 ∷ 0 ∷ 1 ∷ []) × (tailTaken (openOf P) callsP ≡ 1)
     × (informationTaken (openOf P) callsP-first ≡ 1 ∷ 0 ∷ 1 ∷ []) × (tailTaken (openOf P) callsP-first ≡ 0)
-unfolding sumBelow upTo bit shiftIn historyBy openOf refusedOf historyNext encodedOf sendOf sendTailOf callOf takes informationTaken tailTaken
+unfolding openOf refusedOf encodedOf sendOf sendTailOf takes informationTaken tailTaken
 taken-by = (refl, refl, refl, refl)
 
 module _ (s : Session) (own : s ≡ openOf P) (claims : Claims P s) where

@@ -1,8 +1,8 @@
 -- Streams at the edge of the third term's condition, which pin it: each that just meets it, and with one wrong digit more does not.
 -- The condition is a parameter: `Correctable` here, and what a burst asks of its input (`outcomes`, `Claims.SentAs`).
 -- `Meets c info frames` is about the frames received where the code c sent the information frames `info`, and the tail.
--- Where zeros are sent, the digits of a frame received are the wrong ones: 1 the information digit, 2 parity, for P, Q and R; 1 and 2 the
--- information digits, 4 parity, for T.
+-- Where zeros are sent, the digits of a frame received are the wrong ones. A frame's information digit is 1 and its parity digit 2, for P, Q and R; for T
+-- 1 and 2 are the information digits, 4 is the parity digit.
 -- Assumes nothing.
 use Prim.Native.Nat.{ℕ}
 use mathlib.Core.List.{List, [], _∷_}
@@ -27,7 +27,8 @@ pub record Edges (Meets : Card → List ℕ → List ℕ → Type 0) : Type 0 wh
   -- R, J 4: two wrong digits, on two of its four checks
   pub R-two : Meets R (0 ∷ []) (2 ∷ 0 ∷ 0 ∷ 2 ∷ 0 ∷ 0 ∷ [])
   pub R-three : Meets R (0 ∷ []) (2 ∷ 0 ∷ 0 ∷ 2 ∷ 2 ∷ 0 ∷ []) → ⊥
-  -- T, J 2 for each of two streams: the parity digit of time 1 is touched for stream 1 alone, that of time 2 for stream 2 alone
-  pub T-one-each : Meets T (0 ∷ []) (0 ∷ 4 ∷ 4 ∷ [])
-  pub T-two-for-stream-1 : Meets T (0 ∷ []) (0 ∷ 6 ∷ 4 ∷ []) → ⊥
-  pub T-two-for-stream-2 : Meets T (0 ∷ []) (0 ∷ 4 ∷ 5 ∷ []) → ⊥
+  -- T, J 2 for each of two streams, in what is sent for 3 as 3, 4, 4: the parity digit of time 1 is touched for stream 1 alone, that of time 2 for
+  -- stream 2 alone
+  pub T-one-each : Meets T (3 ∷ []) (3 ∷ 0 ∷ 0 ∷ [])
+  pub T-two-for-stream-1 : Meets T (3 ∷ []) (3 ∷ 2 ∷ 0 ∷ []) → ⊥
+  pub T-two-for-stream-2 : Meets T (3 ∷ []) (3 ∷ 0 ∷ 1 ∷ []) → ⊥

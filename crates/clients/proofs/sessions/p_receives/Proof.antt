@@ -1,5 +1,5 @@
 use borrow.Author.Needs.{needs}
-use Rattle.clients.proofs.ReceiverClauses.{opened, receives}
+use Rattle.clients.proofs.ReceiverClauses.{opened-P, receives-as-P}
 use Rattle.clients.proofs.sessions.p_receives.Statement.{statement}
 use Rattle.clients.proofs.sessions.p_receives.Tie as tie
 
@@ -10,7 +10,7 @@ open-requires : tie.Need-open-requires
 open-requires c κs = search needs
 
 returns : tie.Need-returns
-returns c = (opened _ (c .open .ensures), receives _ (c .open .ensures))
+returns c = (opened-P _ (c .open .ensures), receives-as-P _ (c .open .ensures))
 
 pub p-receives-spec : {M : Type 1} → statement M
 p-receives-spec = tie.close (tie.spec slice-aggregate-open open-requires returns)
