@@ -4,7 +4,8 @@ use mathlib.Core.Path.{_≡_, refl, sym, ap, _∙_, subst}
 use mathlib.Core.List.{List, [], _∷_, _++_}
 use native.Mathlib.Omega.{arith}
 use lib.ListN.{length, drop-of-length-le}
-use lib.IntN.{ℤ, pos}
+use lib.Seq.{take-all}
+use lib.IntN.{ℤ, pos, negℤ}
 use Rattle.bits.specs.Sums.{sumBelow, upTo, back}
 use Rattle.bits.specs.Digits.{bit, fromDigits, anyBeyond}
 use Rattle.code.specs.Bench.{P}
@@ -18,7 +19,7 @@ use Rattle.majority.specs.Rule.{syndrome, cleared, checkAt, votes, decide, deci
 use Rattle.outcomes.specs.Outcome.{outcome, refusedOf, givenOf, underCard}
 use Rattle.outcomes.specs.Sending.{sendUnder, sendOf}
 use Rattle.outcomes.specs.Receiving.{receiveUnder, receiveOf}
-use Rattle.outcomes.specs.Claims.{SentAs, CameOut, ComesOutAsSent}
+use Rattle.outcomes.specs.Claims.{SentAs, ComesOutAsSent}
 use Rattle.outcomes.proofs.Outcomes.{under-sent}
 use Rattle.outcomes.proofs.Received.{receive-short, receive-given}
 use Rattle.outcomes.proofs.Edges.{edges}
@@ -46,11 +47,13 @@ module _ (input output : List ℕ) where
 abbrev oneWrong : List ℕ
 oneWrong = 3 ∷ 3 ∷ 3 ∷ 2 ∷ []
 
-pub comes-out : (output : List ℕ) → length output ≡ 3 → (r : ℤ) (after : List ℕ) → ComesOutAsSent cardP oneWrong output r after
-    → CameOut (1 ∷ 0 ∷ 1 ∷ []) r after
+pub comes-out : (output : List ℕ) → length output ≡ 3 → (r : ℤ) (after : List ℕ) → length after ≡ 3 → ComesOutAsSent cardP oneWrong output r after
+    → (r ≡ pos 3) × (after ≡ 1 ∷ 0 ∷ 1 ∷ [])
 unfolding anyBeyond
-comes-out output room r after claim =
-    claim (1 ∷ 0 ∷ 1 ∷ []) (admitted-P oneWrong output (omega arith) (omega arith) refl) (subst (λ (c : Card). SentAs c (1 ∷ 0 ∷ 1 ∷ []) oneWrong) card-P (edges .P-one))
+comes-out output room r after filled claim =
+    let info : List ℕ = 1 ∷ 0 ∷ 1 ∷ [] in
+    let came = claim info (admitted-P oneWrong output (omega arith) (omega arith) refl) (subst (λ (c : Card). SentAs c info oneWrong) card-P (edges .P-one)) in
+    (came .count, sym (take-all 3 after (omega arith)) ∙ came .frames)
 
 pub receives : (output : List ℕ) → length output ≡ 3 → receiveOf cardP (2 ∷ 2 ∷ 0 ∷ 0 ∷ []) output ≡ outcome (pos 3) (1 ∷ 0 ∷ 0 ∷ [])
 unfolding sumBelow upTo back bit fromDigits anyBeyond generator digit parityAt count checkMask syndrome cleared checkAt votes decide decideFrame decided corrected decoded
@@ -58,7 +61,8 @@ receives output room =
     let input : List ℕ = 2 ∷ 2 ∷ 0 ∷ 0 ∷ [] in
     received-P input output ∙ receive-given P input output (omega arith) (omega arith) refl ∙ filled (1 ∷ 0 ∷ 0 ∷ []) output (omega arith)
 
-pub finds-no-room : (output : List ℕ) → length output ≡ 2 → receiveOf cardP oneWrong output ≡ refusedOf 13 output
+pub finds-no-room : (output : List ℕ) → length output ≡ 2 → receiveOf cardP oneWrong output ≡ outcome (negℤ (pos 13)) output
+unfolding refusedOf
 finds-no-room output room = received-P oneWrong output ∙ receive-short P oneWrong output (omega arith) (omega arith)
 
 pub sends : (output : List ℕ) → length output ≡ 4 → sendOf cardP (1 ∷ 0 ∷ 1 ∷ []) output ≡ outcome (pos 4) (3 ∷ 2 ∷ 3 ∷ 2 ∷ [])

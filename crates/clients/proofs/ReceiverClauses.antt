@@ -14,7 +14,7 @@ use Rattle.decoder.specs.Answers.{Reply, receivedOf}
 use Rattle.decoder.specs.Calls.{numberIn, replyOf, sessionAfter}
 use Rattle.decoder.specs.Claims.{Claims}
 use Rattle.decoder.specs.Opening.{sessionFor, closed, OpenPromise}
-use Rattle.decoder.specs.Receive.{openOf, receiveByteOf, receiveReadingsOf, linkFigureOf}
+use Rattle.decoder.specs.Receive.{openOf, receiveByteOf, receiveReadingsOf, linkFigureOf, refusedOf}
 use Rattle.decoder.specs.Example.{one, ReceivesP, ReceivesT}
 use Rattle.decoder.specs.declared.Opened.{Opened}
 use Rattle.decoder.specs.declared.Received.{Received}
@@ -55,7 +55,7 @@ module _ (r : Opened) (promise : OpenPromise cardP r) where
       ∙ receives-as-P .figure
 
 pub receives-nothing : (r : Opened) → OpenPromise (take 19 cardP) r → ReceivesNothing r
-unfolding sessionFor closed numberIn
+unfolding sessionFor closed numberIn refusedOf
 receives-nothing r promise =
     let e = promise .verdict-is ∙ read-short-P in
     let shut = promise .shut 1 19 e in

@@ -12,7 +12,7 @@ use Rattle.card.specs.Outcome.Outcome.{accepted}
 use Rattle.encoder.specs.Outcome.{frame, published, SendOutcome}
 use Rattle.encoder.specs.Claims.{Claims}
 use Rattle.encoder.specs.Opening.{sessionFor, OpenPromise}
-use Rattle.encoder.specs.Sending.{openOf, historyNext, frameNext, encodedOf, sendOf, sendTailOf}
+use Rattle.encoder.specs.Sending.{openOf, refusedOf, historyNext, frameNext, encodedOf, sendOf, sendTailOf}
 use Rattle.encoder.specs.Example.{SendsP}
 use Rattle.encoder.specs.declared.Opened.{Opened}
 use Rattle.encoder.specs.declared.Sent.{Sent}
@@ -42,6 +42,7 @@ module _ (r : Opened) (promise : OpenPromise cardP r) where
       ∙ ap (λ (s : Session). sendTailOf (sendOf s 1 .session) .outcome) own
 
 pub sends-nothing : (r : Opened) → OpenPromise (take 19 cardP) r → SendsNothing r
+unfolding refusedOf
 sends-nothing r promise =
     let e = promise .verdict-is ∙ read-short-P in
     let shut = promise .shut 1 19 e in

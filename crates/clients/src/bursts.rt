@@ -1,14 +1,13 @@
 // Clients of the promises of the burst calls.
 ghost use mathlib.Core.Path.{_≡_};
 ghost use mathlib.Core.List.{[], _∷_};
-ghost use lib.IntN.{pos};
-ghost use Rattle.outcomes.specs.Outcome.{outcome, refusedOf};
-ghost use Rattle.outcomes.specs.Claims.{CameOut};
+ghost use lib.IntN.{pos, negℤ};
+ghost use Rattle.outcomes.specs.Outcome.{outcome};
 use crate::cards::P;
 
 // P receives 3, 3, 3, 2, one digit of it wrong: it comes out as sent, by the third term.
 pub fn p_comes_out(output: &mut [u8; 3]) -> i32
-    ensures { λ r. ⌜ CameOut (1 ∷ 0 ∷ 1 ∷ []) r (now (output .exit)) ⌝ }
+    ensures { λ r. ⌜ (r ≡ pos 3) × (now (output .exit) ≡ 1 ∷ 0 ∷ 1 ∷ []) ⌝ }
 {
     burst::receive::burst_receive(&P, b"\x03\x03\x03\x02", output)
 }
@@ -22,7 +21,7 @@ pub fn p_receives(output: &mut [u8; 3]) -> i32
 
 // An output that is too short is left as it was.
 pub fn p_finds_no_room(output: &mut [u8; 2]) -> i32
-    ensures { λ r. ⌜ outcome r (now (output .exit)) ≡ refusedOf 13 (now (output .entry)) ⌝ }
+    ensures { λ r. ⌜ outcome r (now (output .exit)) ≡ outcome (negℤ (pos 13)) (now (output .entry)) ⌝ }
 {
     burst::receive::burst_receive(&P, b"\x03\x03\x03\x02", output)
 }

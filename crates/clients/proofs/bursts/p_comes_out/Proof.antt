@@ -16,8 +16,8 @@ burst-receive-requires c κs = search needs
 returns : tie.Need-returns
 returns c =
     let burst = c .burst-receive in
-    let came = comes-out _ (search needs) _ _ (burst .ensures .1) in
-    record { count = answer-is (burst .result) (burst .ok) (came .count); frames = came .frames }
+    let came = comes-out _ (search needs) _ _ (search needs) (burst .ensures .1) in
+    (answer-is (burst .result) (burst .ok) (came .0), came .1)
 
 pub p-comes-out-spec : {M : Type 1} → statement M
 p-comes-out-spec =
