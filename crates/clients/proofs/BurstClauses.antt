@@ -1,9 +1,9 @@
 -- What the clauses of the burst calls' promises give for card P.
-use Prim.Native.Nat.{ℕ, _≤_}
+use Prim.Native.Nat.{ℕ}
 use mathlib.Core.Path.{_≡_, refl, sym, ap, _∙_, subst}
-use mathlib.Core.List.{List, [], _∷_, _++_}
+use mathlib.Core.List.{List, [], _∷_}
 use native.Mathlib.Omega.{arith}
-use lib.ListN.{length, drop-of-length-le}
+use lib.ListN.{length, drop}
 use lib.Seq.{take-all}
 use lib.IntN.{ℤ, pos, negℤ}
 use Rattle.bits.specs.Sums.{sumBelow, upTo, back}
@@ -29,12 +29,7 @@ use Rattle.outcomes.proofs.ReadCards.{read-P}
 card-P : P ≡ readCard cardP .card
 card-P = sym (ap (λ (read : CardOutcome). read .card) read-P)
 
--- frames that fill an output
-filled : (frames output : List ℕ) → length output ≤ length frames → givenOf frames output ≡ outcome (pos (length frames)) (frames ++ [])
-unfolding givenOf
-filled frames output l = ap (λ (rest : List ℕ). outcome (pos (length frames)) (frames ++ rest)) (drop-of-length-le output l)
-
--- ---- an output for as many frames as are received, less those that wait
+-- ---- under the card that P's bytes are read as
 module _ (input output : List ℕ) where
   received-P : receiveOf cardP input output ≡ receiveUnder P input output
   unfolding receiveOf underCard
@@ -55,18 +50,18 @@ comes-out output room r after filled claim =
     let came = claim info (admitted-P oneWrong output (omega arith) (omega arith) refl) (subst (λ (c : Card). SentAs c info oneWrong) card-P (edges .P-one)) in
     (came .count, sym (take-all 3 after (omega arith)) ∙ came .frames)
 
-pub receives : (output : List ℕ) → length output ≡ 3 → receiveOf cardP (2 ∷ 2 ∷ 0 ∷ 0 ∷ []) output ≡ outcome (pos 3) (1 ∷ 0 ∷ 0 ∷ [])
-unfolding sumBelow upTo back bit fromDigits anyBeyond generator digit parityAt count checkMask syndrome cleared checkAt votes decide decideFrame decided corrected decoded
+pub receives : (output : List ℕ) → length output ≡ 5 → receiveOf cardP (2 ∷ 2 ∷ 0 ∷ 0 ∷ []) output ≡ outcome (pos 3) (1 ∷ 0 ∷ 0 ∷ drop 3 output)
+unfolding sumBelow upTo back bit fromDigits anyBeyond generator digit parityAt count checkMask syndrome cleared checkAt votes decide decideFrame decided corrected decoded givenOf
 receives output room =
     let input : List ℕ = 2 ∷ 2 ∷ 0 ∷ 0 ∷ [] in
-    received-P input output ∙ receive-given P input output (omega arith) (omega arith) refl ∙ filled (1 ∷ 0 ∷ 0 ∷ []) output (omega arith)
+    received-P input output ∙ receive-given P input output (omega arith) (omega arith) refl
 
 pub finds-no-room : (output : List ℕ) → length output ≡ 2 → receiveOf cardP oneWrong output ≡ outcome (negℤ (pos 13)) output
 unfolding refusedOf
 finds-no-room output room = received-P oneWrong output ∙ receive-short P oneWrong output (omega arith) (omega arith)
 
-pub sends : (output : List ℕ) → length output ≡ 4 → sendOf cardP (1 ∷ 0 ∷ 1 ∷ []) output ≡ outcome (pos 4) (3 ∷ 2 ∷ 3 ∷ 2 ∷ [])
-unfolding sumBelow upTo back bit fromDigits anyBeyond generator digit parityAt withTail sentDigit sentFrame sent
+pub sends : (output : List ℕ) → length output ≡ 6 → sendOf cardP (1 ∷ 0 ∷ 1 ∷ []) output ≡ outcome (pos 4) (3 ∷ 2 ∷ 3 ∷ 2 ∷ drop 4 output)
+unfolding sumBelow upTo back bit fromDigits anyBeyond generator digit parityAt withTail sentDigit sentFrame sent givenOf
 sends output room =
     let info : List ℕ = 1 ∷ 0 ∷ 1 ∷ [] in
-    sent-P info output ∙ under-sent P info output (omega arith) (omega arith) refl ∙ filled (3 ∷ 2 ∷ 3 ∷ 2 ∷ []) output (omega arith)
+    sent-P info output ∙ under-sent P info output (omega arith) (omega arith) refl

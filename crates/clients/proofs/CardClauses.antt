@@ -1,12 +1,13 @@
 -- What the clauses of `read_card`'s promise give for cards of the bench.
 use Prim.Native.Nat.{ℕ, zero, suc, _+_, _-_, _^_, _<_}
-use mathlib.Core.Path.{_≡_, refl, ap, subst}
+use mathlib.Core.Path.{_≡_, refl, sym, ap, _∙_, subst}
 use mathlib.Core.List.{[], _∷_}
 use native.Mathlib.Omega.{arith}
 use lib.ListN.{getD}
 use Rattle.bits.specs.Sums.{sumBelow, back}
 use Rattle.bits.specs.Digits.{bit}
 use Rattle.bits.proofs.Sums.{all-at-most, all-at-most-twice}
+use Rattle.code.specs.Bench.{P}
 use Rattle.code.specs.Code.{generator}
 use Rattle.code.specs.Checks.{count, checkMask, touchesInfo, touchesBy, touches, Orthogonal}
 use Rattle.code.proofs.Touches.{touches-le}
@@ -19,7 +20,7 @@ use Rattle.card.specs.Promise.{CardPromise}
 use Rattle.card.specs.declared.CardRead.{CardRead}
 use Rattle.card.proofs.Acceptance.{reads-back}
 use Rattle.card.proofs.RefusedCard.{not-both}
-use Rattle.outcomes.proofs.ReadCards.{wrongT, read-wrong-T}
+use Rattle.outcomes.proofs.ReadCards.{wrongT, read-P, read-wrong-T}
 use Rattle.clients.specs.Cards.{fieldsP}
 
 -- ---- P is acceptable, shown without reading it
@@ -88,8 +89,15 @@ acceptable-P = record { limits = limits-P; orthogonal = orthogonal; bytes-are = 
 
 -- ---- the clauses
 
-pub accepted-P : (r : CardRead) → CardPromise cardP r → outcomeOf (r .verdict) ≡ accepted
-accepted-P r promise = promise .all-these fieldsP acceptable-P
+module _ (r : CardRead) (promise : CardPromise cardP r) where
+  pub accepted-P : outcomeOf (r .verdict) ≡ accepted
+  accepted-P = promise .all-these fieldsP acceptable-P
+
+  -- whichever fields the bytes are said to be, these state P
+  pub card-P : r .card ≡ P
+  card-P =
+      let found = promise .only-these accepted-P in
+      found .1 .card-is ∙ ap (λ (x : CardOutcome). x .card) (sym (reads-back cardP (found .0) (found .1 .acceptable)) ∙ read-P)
 
 -- no fields are laid out as these bytes within the limits and with orthogonal checks
 unacceptable-T : (f : Fields) → Acceptable wrongT f → ⊥

@@ -3,7 +3,7 @@ use Prim.Native.Nat.{ℕ}
 use mathlib.Core.Path.{_≡_, refl, sym, ap, _∙_}
 use mathlib.Core.List.{List, _++_}
 use lib.ListN.{length, take, drop}
-use lib.Seq.{take-at}
+use lib.Seq.{take-at, drop-at}
 use Rattle.outcomes.specs.Listing.{listing}
 use Rattle.listing.specs.Promise.{Lists}
 
@@ -15,6 +15,15 @@ module _ (input output after : List ℕ) (r : ℕ) (promise : Lists input output
       ∙ ap (λ (l : List ℕ). take (length (listing input)) l) (promise .text-is)
       ∙ take-at (listing input) (drop (length (listing input)) output) (length (listing input)) refl
 
-  -- .. are the listing of every input that begins so
+  -- .. with what stands after them as it was
+  pub rest-kept : drop r after ≡ drop r output
+  rest-kept =
+      let n = length (listing input) in
+      ap (λ (m : ℕ). drop m after) (promise .count-is)
+      ∙ ap (λ (l : List ℕ). drop n l) (promise .text-is)
+      ∙ drop-at (listing input) (drop n output) n refl
+      ∙ sym (ap (λ (m : ℕ). drop m output) (promise .count-is))
+
+  -- the bytes counted are the listing of every input that begins so
   pub listed-whole : length input ≡ 34819 → (more : List ℕ) → take r after ≡ listing (input ++ more)
   listed-whole long more = listed ∙ sym (promise .by-the-front (input ++ more) (sym (take-at input more 34819 long)))

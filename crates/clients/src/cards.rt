@@ -1,5 +1,6 @@
 // Clients of `read_card`'s promise.
 ghost use mathlib.Core.Path.{_≡_};
+ghost use Rattle.code.specs.Bench as Bench;
 ghost use Rattle.card.specs.Outcome.{outcomeOf};
 ghost use Rattle.card.specs.Outcome.Outcome.{accepted};
 use card::CardRead;
@@ -8,9 +9,9 @@ use card::CardRead;
 pub(crate) const P: [u8; 20] =
     *b"\x00\x07\x01\x01\x00\x03\x00\x00\x00\x02\x01\x01\x00\x00\x00\x01\x02\x00\x00\x00";
 
-// P is within the limits and its checks are orthogonal, so it cannot be turned down: `all-these`.
+// P is within the limits and its checks are orthogonal, so it cannot be turned down: `all-these`. The card is what its fields state: `only-these`.
 pub fn p_is_accepted() -> CardRead
-    ensures { λ r. ⌜ outcomeOf (r .verdict) ≡ accepted ⌝ }
+    ensures { λ r. ⌜ (outcomeOf (r .verdict) ≡ accepted) × (r .card ≡ Bench.P) ⌝ }
 {
     card::read_card(&P)
 }

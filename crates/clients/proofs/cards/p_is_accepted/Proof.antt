@@ -1,5 +1,5 @@
 use borrow.Author.Needs.{needs}
-use Rattle.clients.proofs.CardClauses.{accepted-P}
+use Rattle.clients.proofs.CardClauses.{accepted-P, card-P}
 use Rattle.clients.proofs.cards.p_is_accepted.Statement.{statement}
 use Rattle.clients.proofs.cards.p_is_accepted.Tie as tie
 
@@ -10,7 +10,7 @@ read-card-requires : tie.Need-read-card-requires
 read-card-requires c κs = search needs
 
 returns : tie.Need-returns
-returns c = accepted-P _ (c .read-card .ensures)
+returns c = (accepted-P _ (c .read-card .ensures), card-P _ (c .read-card .ensures))
 
 pub p-is-accepted-spec : {M : Type 1} → statement M
 p-is-accepted-spec = tie.close (tie.spec slice-aggregate-read-card read-card-requires returns)
