@@ -9,7 +9,7 @@ use Rattle.outcomes.specs.Listing.{listing}
 use Rattle.outcomes.proofs.Listings.{front-decides}
 use Rattle.listing.specs.Promise.{Lists}
 use Rattle.listing.specs.Written.{WroteWhole}
-use Rattle.listing.proofs.Writing.{wrote-front}
+use Rattle.outcomes.proofs.Writing.{wrote-front}
 
 pub lists : {after text : List ℕ} {r most : ℕ} (input output : List ℕ) → listing input ≡ text → WroteWhole most output text after r → most ≤ 458784
     → 458784 ≤ length output → Lists input output r after

@@ -1,19 +1,14 @@
 -- What the functions of this crate promise to each other. Nobody has to believe this file: the promise of `list` does not speak of it.
 -- Assumes nothing.
-use Prim.Native.Nat.{ℕ, _+_, _≤_}
+use Prim.Native.Nat.{ℕ, _≤_}
 use mathlib.Core.Path.{_≡_}
 use mathlib.Core.List.{List}
 use lib.ListN.{length, take}
-use lib.Seq.{sets}
 use Rattle.code.specs.Guarantees.{Guarantees}
 use Rattle.card.specs.Outcome.{accepted}
 use Rattle.card.specs.Reading.{readCard}
 use Rattle.code.specs.declared.Card.{Card}
-
--- the text was stored in the output, byte by byte from `at` on, and the place after it handed back
-pub record Wrote (output : List ℕ) (at : ℕ) (written after : List ℕ) (end : ℕ) : Type 0 where
-  pub after-is : after ≡ sets output at written
-  pub end-is : end ≡ at + length written
+use Rattle.outcomes.specs.Wrote.{Wrote}
 
 -- the text was written from the front on, and is no longer than `most`
 pub record WroteWhole (most : ℕ) (output written after : List ℕ) (end : ℕ) : Type 0 where

@@ -4,7 +4,7 @@ ghost use mathlib.Core.List.{[], _∷_, _++_};
 ghost use Prim.Native.Nat.{_+_, _≤_, _<_};
 ghost use lib.ListN.{length};
 ghost use Rattle.outcomes.specs.Text.{glyph, decimal};
-ghost use Rattle.listing.specs.Written.{Wrote};
+ghost use Rattle.outcomes.specs.Wrote.{Wrote};
 
 fn byte(output: &mut [u8], at: usize, value: u8) -> usize
     requires { ⌜ at < length (now output) ⌝ }

@@ -1,3 +1,4 @@
+pub mod Writing
 -- bursts
 pub mod Outcomes
 pub mod Received

@@ -1,4 +1,5 @@
 pub mod Outcome
+pub mod Wrote
 pub mod Sending
 pub mod Receiving
 pub mod Claims

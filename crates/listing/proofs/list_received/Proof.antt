@@ -11,7 +11,7 @@ use Rattle.outcomes.specs.Listing.{cardLine, frameLines, endLine}
 use Rattle.listing.proofs.HandedOut.{admitted, handed-count, handed-within, handed-few}
 use Rattle.outcomes.proofs.Listings.{put-together}
 use Rattle.listing.proofs.Room.{room-for-lines, room-for-end, room-for-all}
-use Rattle.listing.proofs.Writing.{wrote-as, wrote-both}
+use Rattle.outcomes.proofs.Writing.{wrote-as, wrote-both}
 use borrow.Author.Needs.{needs}
 use Rattle.listing.proofs.list_received.Statement.{statement}
 use Rattle.listing.proofs.list_received.Tie as tie

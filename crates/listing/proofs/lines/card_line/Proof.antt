@@ -6,7 +6,7 @@ use Rattle.outcomes.specs.Text.{text}
 use Rattle.outcomes.specs.Listing.{cardLine}
 use Rattle.listing.proofs.Decimal.{decimal-length}
 use Rattle.listing.proofs.LineParts.{card-line}
-use Rattle.listing.proofs.Writing.{wrote-as, wrote-both}
+use Rattle.outcomes.proofs.Writing.{wrote-as, wrote-both}
 use borrow.Author.Needs.{needs}
 use Rattle.listing.proofs.lines.card_line.Statement.{statement}
 use Rattle.listing.proofs.lines.card_line.Tie as tie

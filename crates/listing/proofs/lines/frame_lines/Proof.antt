@@ -5,9 +5,9 @@ use native.Mathlib.Omega.{arith}
 use lib.ListN.{length, take}
 use lib.Seq.{take-all, length-take-le}
 use Rattle.outcomes.specs.Listing.{frameLines}
-use Rattle.listing.specs.Written.{Wrote}
+use Rattle.outcomes.specs.Wrote.{Wrote}
 use Rattle.listing.proofs.LineParts.{frames-next, lines-length}
-use Rattle.listing.proofs.Writing.{wrote-nothing, wrote-as, wrote-both, wrote-length}
+use Rattle.outcomes.proofs.Writing.{wrote-nothing, wrote-as, wrote-both, wrote-length}
 use Rattle.listing.proofs.lines.frame_lines.Statement.{statement}
 use Rattle.listing.proofs.lines.frame_lines.Tie as tie
 

@@ -6,7 +6,7 @@ use Rattle.outcomes.specs.Text.{text}
 use Rattle.outcomes.specs.Listing.{refusedLine}
 use Rattle.listing.proofs.Decimal.{decimal-length}
 use Rattle.listing.proofs.LineParts.{refused-line}
-use Rattle.listing.proofs.Writing.{wrote-as, wrote-both}
+use Rattle.outcomes.proofs.Writing.{wrote-as, wrote-both}
 use borrow.Author.Needs.{needs}
 use Rattle.listing.proofs.lines.refused.Statement.{statement}
 use Rattle.listing.proofs.lines.refused.Tie as tie

@@ -4,7 +4,7 @@ use mathlib.Core.List.{_++_}
 use native.Mathlib.Omega.{arith}
 use Rattle.outcomes.specs.Text.{text, decimal}
 use Rattle.listing.proofs.Decimal.{decimal-length}
-use Rattle.listing.proofs.Writing.{wrote-as}
+use Rattle.outcomes.proofs.Writing.{wrote-as}
 use borrow.Author.Needs.{needs}
 use Rattle.listing.proofs.lines.stream_digit.Statement.{statement}
 use Rattle.listing.proofs.lines.stream_digit.Tie as tie

@@ -7,9 +7,9 @@ use native.Mathlib.Omega.{arith}
 use Rattle.bits.specs.Sums.{upTo}
 use Rattle.bits.specs.Digits.{bit}
 use Rattle.outcomes.specs.Text.{decimal, spaced}
-use Rattle.listing.specs.Written.{Wrote}
+use Rattle.outcomes.specs.Wrote.{Wrote}
 use Rattle.listing.proofs.LineParts.{digits-next, digits-length}
-use Rattle.listing.proofs.Writing.{wrote-nothing, wrote-as, wrote-both, wrote-length}
+use Rattle.outcomes.proofs.Writing.{wrote-nothing, wrote-as, wrote-both, wrote-length}
 use Rattle.listing.proofs.lines.stream_digits.Statement.{statement}
 use Rattle.listing.proofs.lines.stream_digits.Tie as tie
 

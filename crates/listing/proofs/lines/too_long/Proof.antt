@@ -1,7 +1,7 @@
 use native.Mathlib.Omega.{arith}
 use Rattle.outcomes.specs.Text.{text}
 use Rattle.listing.proofs.LineParts.{too-long-line}
-use Rattle.listing.proofs.Writing.{wrote-as}
+use Rattle.outcomes.proofs.Writing.{wrote-as}
 use borrow.Author.Needs.{needs}
 use Rattle.listing.proofs.lines.too_long.Statement.{statement}
 use Rattle.listing.proofs.lines.too_long.Tie as tie

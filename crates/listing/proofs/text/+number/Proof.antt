@@ -6,7 +6,7 @@ use native.Mathlib.Omega.{arith}
 use lib.ListN.{length, length-append}
 use Rattle.outcomes.specs.Text.{glyph, decimal}
 use Rattle.listing.proofs.Decimal.{decimal-digit, decimal-last}
-use Rattle.listing.proofs.Writing.{wrote-both, wrote-as}
+use Rattle.outcomes.proofs.Writing.{wrote-both, wrote-as}
 use Prim.Native.Nat.{ℕ, _<_}
 use borrow.Fn.Kinds.{In}
 use borrow.Fn.PlainCycle.{Measures, is, falls, and}

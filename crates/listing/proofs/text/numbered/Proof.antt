@@ -1,4 +1,4 @@
-use Rattle.listing.proofs.Writing.{wrote-both}
+use Rattle.outcomes.proofs.Writing.{wrote-both}
 use borrow.Author.Needs.{needs}
 use Rattle.listing.proofs.text.numbered.Statement.{statement}
 use Rattle.listing.proofs.text.numbered.Tie as tie
