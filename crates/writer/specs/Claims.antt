@@ -1,7 +1,7 @@
 -- What the written form of a card is good for: document 02, R-1 ("The unit reads its own output as the same card, and a card that states no
 -- default comes back byte for byte", "so the written form of a card is one only").
 -- Assumes nothing.
-use Prim.Native.Nat.{ℕ, _≤_}
+use Prim.Native.Nat.{ℕ, _≤_, _<_}
 use mathlib.Core.Path.{_≡_}
 use mathlib.Core.List.{List}
 use lib.ListN.{length, take}
@@ -41,7 +41,7 @@ pub record WrittenForm (c : Card) : Type 0 where
 
 -- of a call with a card's bytes: the answer, and the output as the call leaves it
 pub record CarriesOn (card output : List ℕ) (answer : ℤ) (after : List ℕ) : Type 0 where
-  -- the bytes written are read as the same card
-  pub reads-back : (n : ℕ) → answer ≡ pos n → readCard (take n after) ≡ readCard card
+  -- an answer above zero is the count of bytes that are read as the same card
+  pub reads-back : (n : ℕ) → 0 < n → answer ≡ pos n → readCard (take n after) ≡ readCard card
   -- a card that states no default comes back byte for byte
   pub comes-back : (f : Fields) → Acceptable card f → StatesNoDefault f → length card ≤ length output → outcome answer after ≡ givenOf card output

@@ -1,0 +1,86 @@
+-- What writing a card comes to under each condition, and what a call with a card's bytes is good for.
+use Prim.Native.Nat.{ℕ, zero, suc, _≤_, _<_}
+use mathlib.Core.Path.{_≡_, refl, sym, ap, subst, _∙_}
+use mathlib.Core.Logic.{⊎-elim}
+use mathlib.Core.List.{List, _++_}
+use native.Mathlib.Omega.{arith}
+use lib.ListN.{length, take, drop}
+use lib.Seq.{take-at}
+use lib.IntN.{ℤ, pos, negsuc, negℤ}
+use borrow.Author.Tests.{lt-ltb, le-ltb}
+use Rattle.bits.proofs.Cases.{le-or-lt}
+use Rattle.code.specs.declared.Card.{Card}
+use Rattle.card.specs.Fields.{Fields, cardOf}
+use Rattle.card.specs.Layout.{Acceptable}
+use Rattle.card.specs.Outcome.{Outcome, CardOutcome}
+use Rattle.card.specs.Outcome.Outcome.{accepted, refused}
+use Rattle.card.specs.Reading.{readCard}
+use Rattle.card.proofs.Acceptance as acceptance
+use Rattle.outcomes.specs.Outcome.{BurstOutcome, outcome, refusedOf, givenOf, underCard}
+use Rattle.writer.specs.Written.{written}
+use Rattle.writer.specs.Outcome.{writeUnder, writeOf}
+use Rattle.writer.specs.Claims.{ReadsAs, StatesNoDefault, CarriesOn}
+use Rattle.writer.proofs.Forms.{written-form}
+
+-- ---- a card
+module _ (c : Card) (output : List ℕ) where
+  pub write-short : length output < length (written c) → writeUnder c output ≡ refusedOf 13 output
+  unfolding writeUnder
+  write-short l = rw (lt-ltb (length output) (length (written c)) l)
+
+  pub write-given : length (written c) ≤ length output → writeUnder c output ≡ givenOf (written c) output
+  unfolding writeUnder
+  write-given l = rw (le-ltb (length output) (length (written c)) l)
+
+-- ---- an answer above zero is no refusal, and the count of what was given
+
+-- the count in an answer
+abbrev above : ℤ → ℕ
+above (pos n) = n
+above (negsuc n) = 0
+
+minus-above : (n : ℕ) → above (negℤ (pos n)) ≡ 0
+minus-above zero = refl
+minus-above (suc n) = refl
+
+module _ (output : List ℕ) {answer : ℤ} {after : List ℕ} {n : ℕ} (positive : 0 < n) (count : answer ≡ pos n) where
+  not-refused : (m : ℕ) → outcome answer after ≡ refusedOf m output → ⊥
+  unfolding refusedOf
+  not-refused m e =
+      let z : n ≡ 0 = ap above (sym count ∙ ap (λ (b : BurstOutcome). b .answer) e) ∙ minus-above m in
+      omega arith
+
+  given-bytes : (bytes : List ℕ) → outcome answer after ≡ givenOf bytes output → take n after ≡ bytes
+  unfolding givenOf
+  given-bytes bytes e =
+      let q : n ≡ length bytes = ap above (sym count ∙ ap (λ (b : BurstOutcome). b .answer) e) in
+      ap (λ (b : BurstOutcome). take n (b .output)) e ∙ take-at bytes (drop (length bytes) output) n (sym q)
+
+  written-bytes : (c : Card) → outcome answer after ≡ writeUnder c output → take n after ≡ written c
+  written-bytes c e =
+      ⊎-elim (λ l. given-bytes (written c) (e ∙ write-given c output l)) (λ l. absurd (not-refused 13 (e ∙ write-short c output l)))
+      (le-or-lt (length (written c)) (length output))
+
+  read-back : (card : List ℕ) (o : Outcome) (c : Card) → readCard card ≡ record { outcome = o; card = c }
+      → outcome answer after ≡ underCard o (writeUnder c output) output → readCard (take n after) ≡ readCard card
+  unfolding underCard
+  read-back card accepted c e q = ap readCard (written-bytes c q) ∙ written-form c .reads-back card e ∙ sym e
+  read-back card (refused m at) c e q = absurd (not-refused m q)
+
+-- ---- the claims of a call
+module _ (card output : List ℕ) where
+  come-back : (f : Fields) → Acceptable card f → StatesNoDefault f → length card ≤ length output → writeOf card output ≡ givenOf card output
+  unfolding writeOf underCard
+  come-back f a s room =
+      let same : written (cardOf f) ≡ card = written-form (cardOf f) .one-only card f (record { acceptable = a; card-is = refl; states-none = s }) in
+      ap (λ (r : CardOutcome). underCard (r .outcome) (writeUnder (r .card) output) output) (acceptance.reads-back card f a)
+      ∙ write-given (cardOf f) output (omega (arith, ap length same))
+      ∙ ap (λ (bytes : List ℕ). givenOf bytes output) same
+
+  pub carries-on : {answer : ℤ} {after : List ℕ} → outcome answer after ≡ writeOf card output → CarriesOn card output answer after
+  unfolding writeOf
+  carries-on e =
+      record {
+        reads-back = λ n positive count. read-back output positive count card (readCard card .outcome) (readCard card .card) refl e;
+        comes-back = λ f a s room. e ∙ come-back f a s room;
+      }

@@ -1,0 +1,3 @@
+pub mod FieldsBack
+pub mod Forms
+pub mod Carrying
