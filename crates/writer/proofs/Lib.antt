@@ -1,3 +1,4 @@
 pub mod FieldsBack
 pub mod Forms
 pub mod Carrying
+pub mod Computed
