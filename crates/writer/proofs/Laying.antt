@@ -1,0 +1,97 @@
+-- The layout of a card with one mask, one row, one check or one stream more at the end: what one turn of a loop adds.
+use Prim.Native.Nat.{ℕ, _+_, _*_, _^_, min}
+use mathlib.Core.Path.{_≡_, refl, sym, ap, _∙_}
+use mathlib.Core.Bool.{cond}
+use mathlib.Core.List.{List, [], _∷_, _++_, map, append-nil, append-assoc, map-append}
+use native.Mathlib.Omega.{arith}
+use lib.ListN.{length, getD}
+use lib.Dec.{eqb}
+use Rattle.bits.specs.Sums.{upTo}
+use Rattle.bits.proofs.Lists.{upTo-length, upTo-more}
+use Rattle.card.specs.Fields.{Stream}
+use Rattle.card.specs.Layout.{bytes4, stands, mapOf, layoutMasks, allRows, layoutChecks, layoutStreams}
+use Rattle.card.proofs.LayoutLaws as laws
+use Rattle.writer.specs.Written.{masksAt, rowsOf, checksOf, streamOf, streamsOf}
+
+-- ---- the masks of p parity streams, from a place of a table on
+module _ (table : List ℕ) (start : ℕ) where
+  pub masks-count : (p : ℕ) → length (masksAt table start p) ≡ p
+  unfolding masksAt
+  masks-count p = upTo-length p (λ j. getD table (start + j) 0)
+
+  module _ (j : ℕ) where
+    abbrev v : ℕ
+    v = getD table (start + j) 0
+
+    masks-more : masksAt table start (j + 1) ≡ masksAt table start j ++ (v ∷ [])
+    unfolding masksAt
+    masks-more = upTo-more j (λ i. getD table (start + i) 0)
+
+    pub masks-next : layoutMasks (masksAt table start j) ++ cond (eqb v 0) [] (bytes4 v) ≡ layoutMasks (masksAt table start (j + 1))
+    unfolding layoutMasks
+    masks-next =
+        sym
+        (ap layoutMasks masks-more
+        ∙ laws.masks-append (masksAt table start j) (v ∷ [])
+        ∙ ap (λ l. layoutMasks (masksAt table start j) ++ l) (append-nil (cond (eqb v 0) [] (bytes4 v))))
+
+    pub map-next : mapOf (masksAt table start j) + stands v * 2 ^ j ≡ mapOf (masksAt table start (j + 1))
+    unfolding mapOf
+    map-next =
+        sym
+        (ap mapOf masks-more
+        ∙ laws.map-append (masksAt table start j) (v ∷ [])
+        ∙ rw (masks-count j) (omega arith))
+
+-- ---- the generators of k information streams
+all-append : (rows : List (List ℕ)) (vs : List ℕ) → allRows (rows ++ (vs ∷ [])) ≡ allRows rows ++ vs
+unfolding allRows
+all-append [] vs = append-nil vs
+all-append (ws ∷ rows) vs = ap (λ l. ws ++ l) (all-append rows vs) ∙ sym (append-assoc ws (allRows rows) vs)
+
+module _ (table : List ℕ) (p : ℕ) where
+  pub rows-more : (i : ℕ) → allRows (rowsOf table (i + 1) p) ≡ allRows (rowsOf table i p) ++ masksAt table (i * 8) p
+  unfolding rowsOf
+  rows-more i =
+      ap (λ l. allRows (map (λ n. masksAt table (n * 8) p) l)) (upTo-more i (λ n. n))
+      ∙ ap allRows (map-append (λ n. masksAt table (n * 8) p) (upTo i (λ n. n)) (i ∷ []))
+      ∙ all-append (map (λ n. masksAt table (n * 8) p) (upTo i (λ n. n))) (masksAt table (i * 8) p)
+
+  pub rows-next : (i : ℕ)
+      → layoutMasks (allRows (rowsOf table i p)) ++ layoutMasks (masksAt table (i * 8) p) ≡ layoutMasks (allRows (rowsOf table (i + 1) p))
+  rows-next i = sym (ap layoutMasks (rows-more i) ∙ laws.masks-append (allRows (rowsOf table i p)) (masksAt table (i * 8) p))
+
+-- ---- the checks of an information stream
+checks-append : (checks : List (List ℕ)) (more : List (List ℕ)) → layoutChecks (checks ++ more) ≡ layoutChecks checks ++ layoutChecks more
+unfolding layoutChecks
+checks-append [] more = refl
+checks-append (vs ∷ checks) more =
+    ap (λ l. mapOf vs ∷ (layoutMasks vs ++ l)) (checks-append checks more)
+    ∙ ap (λ l. mapOf vs ∷ l) (sym (append-assoc (layoutMasks vs) (layoutChecks checks) (layoutChecks more)))
+
+pub checks-next : (checks : List ℕ) (i p q : ℕ)
+    → layoutChecks (checksOf checks i q p) ++ layoutChecks (masksAt checks (i * 128 + q * 8) p ∷ []) ≡ layoutChecks (checksOf checks i (q + 1) p)
+unfolding checksOf
+checks-next checks i p q =
+    sym
+    (ap (λ l. layoutChecks (map (λ n. masksAt checks (i * 128 + n * 8) p) l)) (upTo-more q (λ n. n))
+    ∙ ap layoutChecks (map-append (λ n. masksAt checks (i * 128 + n * 8) p) (upTo q (λ n. n)) (q ∷ []))
+    ∙ checks-append (map (λ n. masksAt checks (i * 128 + n * 8) p) (upTo q (λ n. n))) (masksAt checks (i * 128 + q * 8) p ∷ []))
+
+-- ---- the information streams
+streams-append : (streams more : List Stream) → layoutStreams (streams ++ more) ≡ layoutStreams streams ++ layoutStreams more
+unfolding layoutStreams
+streams-append [] more = refl
+streams-append (s ∷ streams) more =
+    ap (λ l. s .count ∷ (layoutChecks (s .checks) ++ l)) (streams-append streams more)
+    ∙ ap (λ l. s .count ∷ l) (sym (append-assoc (layoutChecks (s .checks)) (layoutStreams streams) (layoutStreams more)))
+
+pub streams-next : (counts checks : List ℕ) (p i : ℕ)
+    → layoutStreams (streamsOf counts checks i p) ++ layoutStreams (streamOf checks i (min (getD counts i 0) 16) p ∷ [])
+    ≡ layoutStreams (streamsOf counts checks (i + 1) p)
+unfolding streamsOf
+streams-next counts checks p i =
+    sym
+    (ap (λ l. layoutStreams (map (λ n. streamOf checks n (min (getD counts n 0) 16) p) l)) (upTo-more i (λ n. n))
+    ∙ ap layoutStreams (map-append (λ n. streamOf checks n (min (getD counts n 0) 16) p) (upTo i (λ n. n)) (i ∷ []))
+    ∙ streams-append (map (λ n. streamOf checks n (min (getD counts n 0) 16) p) (upTo i (λ n. n))) (streamOf checks i (min (getD counts i 0) 16) p ∷ []))
