@@ -15,7 +15,7 @@ use Rattle.bits.proofs.Cases.{same-or-not}
 use Rattle.card.specs.Fields.{Head}
 use Rattle.card.specs.Layout.{bytes4, layoutMasks, optional, layoutHead, allRows, layoutRows, layoutChecks, layoutStreams}
 use Rattle.writer.specs.Written.{masksAt, rowsOf, checksOf, streamOf, streamsOf}
-use Rattle.writer.proofs.Laying.{masks-count, rows-more, checks-next, streams-next}
+use Rattle.writer.proofs.Laying.{masks-count, rows-count, checks-next, streams-next}
 
 -- ---- masks
 mask-length : (v : ℕ) → length (cond (eqb v 0) [] (bytes4 v)) ≤ 4
@@ -47,15 +47,6 @@ head-length h =
     )
 
 -- ---- the generators
-pub rows-count : (table : List ℕ) (p i : ℕ) → length (allRows (rowsOf table i p)) ≡ i * p
-unfolding upTo allRows rowsOf
-rows-count table p zero = omega arith
-rows-count table p (suc i) =
-    ap (λ n. length (allRows (rowsOf table n p))) (sym (add-one i))
-    ∙ ap length (rows-more table p i)
-    ∙ length-append (allRows (rowsOf table i p)) (masksAt table (i * 8) p)
-    ∙ omega (arith, rows-count table p i, masks-count table (i * 8) p)
-
 pub all-length : (table : List ℕ) (p i : ℕ) → length (layoutMasks (allRows (rowsOf table i p))) ≤ 4 * (i * p)
 all-length table p i = omega (arith, list-length (allRows (rowsOf table i p)), rows-count table p i)
 
