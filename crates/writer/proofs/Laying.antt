@@ -1,5 +1,5 @@
 -- The layout of a card with one mask, one row, one check or one stream more at the end: what one turn of a loop adds.
-use Prim.Native.Nat.{ℕ, zero, suc, _+_, _*_, _%_, _^_, _≤_, _<_, min}
+use Prim.Native.Nat.{ℕ, zero, suc, _+_, _*_, _/_, _%_, _^_, _≤_, _<_, min}
 use mathlib.Core.Path.{_≡_, refl, sym, ap, ap₂, _∙_}
 use mathlib.Core.Bool.{cond}
 use mathlib.Core.List.{List, [], _∷_, _++_, map, append-nil, append-assoc, map-append}
@@ -12,7 +12,7 @@ use lib.Dec.{eqb}
 use Rattle.bits.specs.Sums.{upTo}
 use Rattle.bits.proofs.Lists.{upTo-length, upTo-more}
 use Rattle.card.specs.Fields.{Stream}
-use Rattle.card.specs.Layout.{bytes4, stands, mapOf, layoutMasks, optional, layoutHead, allRows, layoutChecks, layoutStreams}
+use Rattle.card.specs.Layout.{bytes4, stands, mapOf, layoutMasks, optional, layoutHead, allRows, layoutRows, layoutChecks, layoutStreams}
 use Rattle.card.proofs.LayoutLaws as laws
 use Rattle.writer.specs.Written.{stated, headOf, masksAt, rowsOf, checksOf, streamOf, streamsOf}
 
@@ -107,7 +107,17 @@ module _ (table : List ℕ) (p : ℕ) where
       → layoutMasks (allRows (rowsOf table i p)) ++ layoutMasks (masksAt table (i * 8) p) ≡ layoutMasks (allRows (rowsOf table (i + 1) p))
   rows-next i = sym (ap layoutMasks (rows-more i) ∙ laws.masks-append (allRows (rowsOf table i p)) (masksAt table (i * 8) p))
 
+-- the generator map's two bytes, and the masks
+pub rows-parts : (rows : List (List ℕ)) {m : ℕ} → m ≡ mapOf (allRows rows)
+    → (((m % 256) ∷ []) ++ ((m / 256) ∷ [])) ++ layoutMasks (allRows rows) ≡ layoutRows rows
+unfolding layoutRows
+rows-parts rows e = ap (λ m. m % 256 ∷ (m / 256 ∷ layoutMasks (allRows rows))) e
+
 -- ---- the checks of an information stream
+pub check-parts : (vs : List ℕ) {m : ℕ} → m ≡ mapOf vs → (m ∷ []) ++ layoutMasks vs ≡ layoutChecks (vs ∷ [])
+unfolding layoutChecks
+check-parts vs e = ap₂ (λ m l. m ∷ l) e (sym (append-nil (layoutMasks vs)))
+
 checks-append : (checks : List (List ℕ)) (more : List (List ℕ)) → layoutChecks (checks ++ more) ≡ layoutChecks checks ++ layoutChecks more
 unfolding layoutChecks
 checks-append [] more = refl
@@ -131,6 +141,10 @@ streams-append [] more = refl
 streams-append (s ∷ streams) more =
     ap (λ l. s .count ∷ (layoutChecks (s .checks) ++ l)) (streams-append streams more)
     ∙ ap (λ l. s .count ∷ l) (sym (append-assoc (layoutChecks (s .checks)) (layoutStreams streams) (layoutStreams more)))
+
+pub stream-parts : (checks : List ℕ) (i count p : ℕ) → (count ∷ []) ++ layoutChecks (checksOf checks i count p) ≡ layoutStreams (streamOf checks i count p ∷ [])
+unfolding layoutStreams streamOf
+stream-parts checks i count p = ap (λ l. count ∷ l) (sym (append-nil (layoutChecks (checksOf checks i count p))))
 
 pub streams-next : (counts checks : List ℕ) (p i : ℕ)
     → layoutStreams (streamsOf counts checks i p) ++ layoutStreams (streamOf checks i (min (getD counts i 0) 16) p ∷ [])
