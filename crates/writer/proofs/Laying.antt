@@ -18,11 +18,9 @@ use Rattle.writer.specs.Written.{stated, headOf, masksAt, rowsOf, checks
 
 -- ---- the head
 pub head-parts : (number k n m : ℕ) {a b : ℕ} → a ≡ stated 1 k → b ≡ stated 2 n
-    → (((((a + 2 * b) ∷ []) ++ (number ∷ [])) ++ optional (stated 1 k) k) ++ optional (stated 2 n) n) ++ (m ∷ []) ≡ layoutHead (headOf number k n m)
+    → ((a + 2 * b) ∷ []) ++ ((number ∷ []) ++ (optional (stated 1 k) k ++ (optional (stated 2 n) n ++ (m ∷ [])))) ≡ layoutHead (headOf number k n m)
 unfolding layoutHead
-head-parts number k n m e q =
-    ap₂ (λ a b. ((((a + 2 * b) ∷ (number ∷ [])) ++ optional (stated 1 k) k) ++ optional (stated 2 n) n) ++ (m ∷ [])) e q
-    ∙ simp append-assoc
+head-parts number k n m e q = ap₂ (λ a b. (a + 2 * b) ∷ (number ∷ (optional (stated 1 k) k ++ (optional (stated 2 n) n ++ (m ∷ []))))) e q
 
 -- ---- a map, added up from the lowest digits on
 map-placed : (vs ws : List ℕ) {n : ℕ} → length vs ≡ n → n + length ws ≤ 32 → mapOf vs + mapOf ws * 2 ^ n % 4294967296 ≡ mapOf (vs ++ ws)
@@ -109,7 +107,7 @@ module _ (table : List ℕ) (p : ℕ) where
 
 -- the generator map's two bytes, and the masks
 pub rows-parts : (rows : List (List ℕ)) {m : ℕ} → m ≡ mapOf (allRows rows)
-    → (((m % 256) ∷ []) ++ ((m / 256) ∷ [])) ++ layoutMasks (allRows rows) ≡ layoutRows rows
+    → ((m % 256) ∷ []) ++ (((m / 256) ∷ []) ++ layoutMasks (allRows rows)) ≡ layoutRows rows
 unfolding layoutRows
 rows-parts rows e = ap (λ m. m % 256 ∷ (m / 256 ∷ layoutMasks (allRows rows))) e
 

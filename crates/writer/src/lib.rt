@@ -9,7 +9,6 @@ ghost use Rattle.outcomes.specs.Wrote.{Wrote};
 ghost use Rattle.card.specs.Layout.{layout};
 ghost use Rattle.writer.specs.Written.{fieldsWith};
 ghost use Rattle.writer.specs.Outcome.{answerOf, writeUnder};
-ghost use Rattle.writer.specs.Claims.{WrittenForm};
 use card::Refusal;
 use code::Card;
 
@@ -41,7 +40,6 @@ fn lay_out<'a>(
 // Writes a card: the count of bytes, or 13 where the output is too short. Only that many bytes are written, and a refused call writes none.
 pub fn write_card(card: Card, output: &mut [u8]) -> CardWritten
     ensures { λ r. ⌜ outcome (answerOf r) (now (output .exit)) ≡ writeUnder card (now (output .entry)) ⌝ }
-    ensures { λ _. ⌜ WrittenForm card ⌝ }
 {
     let k = bits::at_most(card.k, 4);
     let p = bits::at_most(card.p, 8 - k);

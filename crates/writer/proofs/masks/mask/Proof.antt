@@ -46,7 +46,7 @@ returns-2 c =
     let second = third .before .before .before .before in
     let first = second .before .before .before .before in
     rw (ne-eqb _ _ (first .before .before .if1 .left))
-    (wrote-both _ _ (wrote-both _ _ (wrote-both _ _ (first .byte .ensures) (second .byte2 .ensures)) (third .byte3 .ensures)) (fourth .byte4 .ensures))
+    (wrote-both _ _ (first .byte .ensures) (wrote-both _ _ (second .byte2 .ensures) (wrote-both _ _ (third .byte3 .ensures) (fourth .byte4 .ensures))))
 
 pub mask-spec : {M : Type 1} → statement M
 mask-spec =

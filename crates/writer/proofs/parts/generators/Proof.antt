@@ -34,7 +34,7 @@ returns c =
     let low = high .before .before .before .before in
     let a = low .before .before .before .before .args in
     wrote-as (rows-parts (rowsOf (a .table .now) (a .k) (a .p)) (low .before .before .generator-map .ensures .0))
-    (wrote-both _ _ (wrote-both _ _ (low .byte .ensures) (high .byte2 .ensures)) (laid .generator-masks .ensures))
+    (wrote-both _ _ (low .byte .ensures) (wrote-both _ _ (high .byte2 .ensures) (laid .generator-masks .ensures)))
 
 pub generators-spec : {M : Type 1} → statement M
 generators-spec =

@@ -78,11 +78,9 @@ returns c =
     let after-map = after-number .before .before .before .before in
     let a = after-map .before .before .before .before .before .args in
     wrote-as (head-parts (a .number) (a .k) (a .n) (a .m) (after-map .before .before .stated .ensures .0) (after-map .before .stated2 .ensures .0))
-    (wrote-both _ _
-    (wrote-both _ _
-    (wrote-both _ _ (wrote-both _ _ (after-map .byte .ensures) (after-number .byte2 .ensures)) (after-k .field .ensures))
-    (after-n .field2 .ensures))
-    (after-m .byte3 .ensures))
+    (wrote-both _ _ (after-map .byte .ensures)
+    (wrote-both _ _ (after-number .byte2 .ensures)
+    (wrote-both _ _ (after-k .field .ensures) (wrote-both _ _ (after-n .field2 .ensures) (after-m .byte3 .ensures)))))
 
 pub head-spec : {M : Type 1} → statement M
 head-spec =
