@@ -21,7 +21,7 @@ use Rattle.writer.specs.Bench.{statedP, W, cardW, statedW}
 use Rattle.writer.specs.Written.{written}
 use Rattle.writer.specs.Outcome.{writeUnder, writeOf}
 use Rattle.writer.specs.Claims.{ReadsAs, StatesNoDefault, Plain, WrittenForm, CarriesOn}
-use Rattle.writer.proofs.Carrying.{write-short, write-given}
+use Rattle.writer.proofs.Answers.{write-short, write-given}
 use Rattle.writer.proofs.Computed.{written-P, written-T, written-W, read-stated-P, read-stated-W}
 use Rattle.clients.specs.Cards.{fieldsP}
 use Rattle.clients.specs.Forms.{FormOfP}

@@ -1,4 +1,4 @@
--- What writing a card comes to under each condition, and what a call with a card's bytes is good for.
+-- What a call with a card's bytes is good for.
 use Prim.Native.Nat.{ℕ, zero, suc, _≤_, _<_}
 use mathlib.Core.Path.{_≡_, refl, sym, ap, subst, _∙_}
 use mathlib.Core.Logic.{⊎-elim}
@@ -7,7 +7,6 @@ use native.Mathlib.Omega.{arith}
 use lib.ListN.{length, take, drop}
 use lib.Seq.{take-at}
 use lib.IntN.{ℤ, pos, negsuc, negℤ}
-use borrow.Author.Tests.{lt-ltb, le-ltb}
 use Rattle.bits.proofs.Cases.{le-or-lt}
 use Rattle.code.specs.declared.Card.{Card}
 use Rattle.card.specs.Fields.{Fields, cardOf}
@@ -20,17 +19,8 @@ use Rattle.outcomes.specs.Outcome.{BurstOutcome, outcome, refusedOf, givenOf, u
 use Rattle.writer.specs.Written.{written}
 use Rattle.writer.specs.Outcome.{writeUnder, writeOf}
 use Rattle.writer.specs.Claims.{ReadsAs, StatesNoDefault, CarriesOn}
+use Rattle.writer.proofs.Answers.{write-short, write-given}
 use Rattle.writer.proofs.Forms.{written-form}
-
--- ---- a card
-module _ (c : Card) (output : List ℕ) where
-  pub write-short : length output < length (written c) → writeUnder c output ≡ refusedOf 13 output
-  unfolding writeUnder
-  write-short l = rw (lt-ltb (length output) (length (written c)) l)
-
-  pub write-given : length (written c) ≤ length output → writeUnder c output ≡ givenOf (written c) output
-  unfolding writeUnder
-  write-given l = rw (le-ltb (length output) (length (written c)) l)
 
 -- ---- an answer above zero is no refusal, and the count of what was given
 

@@ -1,3 +1,8 @@
+-- the code
+pub mod Laying
+pub mod Lengths
+pub mod Answers
+-- the claims
 pub mod FieldsBack
 pub mod Forms
 pub mod Carrying
