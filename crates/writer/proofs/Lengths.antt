@@ -1,6 +1,6 @@
 -- How long the parts of a written card are at most.
 use Prim.Native.Nat.{ℕ, zero, suc, _+_, _*_, _≤_, min}
-use mathlib.Core.Path.{_≡_, sym, ap, _∙_}
+use mathlib.Core.Path.{refl, sym, ap}
 use mathlib.Core.Bool.{cond}
 use mathlib.Core.List.{List, [], _∷_, _++_}
 use mathlib.Core.Logic.{⊎-elim}
@@ -86,7 +86,8 @@ checks-length checks i (suc q) p h =
     )
 
 -- ---- the information streams
-pub stream-length : (checks : List ℕ) (i count p : ℕ) → count ≤ 16 → p ≤ 8 → length (layoutStreams (streamOf checks i count p ∷ [])) ≤ 529
+pub stream-length : (checks : List ℕ) (i count p : ℕ)
+    → count ≤ 16 → p ≤ 8 → length (layoutStreams (streamOf checks i count p ∷ [])) ≤ 529
 unfolding layoutStreams streamOf
 stream-length checks i count p l h =
     omega (arith, checks-length checks i count p h, length-append {A = ℕ} (layoutChecks (checksOf checks i count p)) [])
@@ -98,7 +99,7 @@ streams-length counts checks (suc k) p h =
     omega (
       arith,
       ap (λ n. length (layoutStreams (streamsOf counts checks n p))) (sym (add-one k)),
-      ap length (streams-next counts checks p k),
+      ap length (streams-next counts checks p k refl),
       length-append (layoutStreams (streamsOf counts checks k p)) (layoutStreams (streamOf checks k (min (getD counts k 0) 16) p ∷ [])),
       streams-length counts checks k p h,
       stream-length checks k (min (getD counts k 0) 16) p (omega arith) h,
