@@ -30,7 +30,7 @@ map-placed vs ws {n} e h =
     ∙ sym (laws.map-append vs ws ∙ (omega arith))
 
 map-within : (vs : List ℕ) {p n : ℕ} → length vs ≡ p → p ≤ n → mapOf vs < 2 ^ n
-map-within vs {p} {n} e h = lt-of-lt-of-le (laws.map-lt vs) (pow-mono {i = length vs} {j = n} (omega arith))
+map-within vs {n = n} e h = lt-of-lt-of-le (laws.map-lt vs) (pow-mono {i = length vs} {j = n} (omega arith))
 
 -- ---- the masks of p parity streams, from a place of a table on
 module _ (table : List ℕ) (start : ℕ) where
@@ -120,7 +120,7 @@ pub check-parts : (vs : List ℕ) {m : ℕ} → m ≡ mapOf vs → (m ∷ []) ++
 unfolding layoutChecks
 check-parts vs e = ap₂ (λ m l. m ∷ l) e (sym (append-nil (layoutMasks vs)))
 
-checks-append : (checks : List (List ℕ)) (more : List (List ℕ)) → layoutChecks (checks ++ more) ≡ layoutChecks checks ++ layoutChecks more
+checks-append : (checks more : List (List ℕ)) → layoutChecks (checks ++ more) ≡ layoutChecks checks ++ layoutChecks more
 unfolding layoutChecks
 checks-append [] more = refl
 checks-append (vs ∷ checks) more =

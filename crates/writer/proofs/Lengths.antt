@@ -68,7 +68,7 @@ unfolding layoutRows
 rows-length table k p h n = omega (arith, all-length table p k, few-generators k p h n)
 
 -- ---- the checks
-pub check-length : (table : List ℕ) (start p : ℕ) → p ≤ 8 → length (layoutChecks (masksAt table start p ∷ [])) ≤ 33
+check-length : (table : List ℕ) (start p : ℕ) → p ≤ 8 → length (layoutChecks (masksAt table start p ∷ [])) ≤ 33
 unfolding layoutChecks
 check-length table start p h = omega (arith, masks-length table start p, length-append {A = ℕ} (layoutMasks (masksAt table start p)) [])
 
@@ -86,7 +86,7 @@ checks-length checks i (suc q) p h =
     )
 
 -- ---- the information streams
-pub stream-length : (checks : List ℕ) (i count p : ℕ)
+stream-length : (checks : List ℕ) (i count p : ℕ)
     → count ≤ 16 → p ≤ 8 → length (layoutStreams (streamOf checks i count p ∷ [])) ≤ 529
 unfolding layoutStreams streamOf
 stream-length checks i count p l h =
