@@ -30,7 +30,7 @@ map-placed vs ws {n} e h =
     ∙ sym (laws.map-append vs ws ∙ (omega arith))
 
 map-within : (vs : List ℕ) {p n : ℕ} → length vs ≡ p → p ≤ n → mapOf vs < 2 ^ n
-map-within vs {p} {n} e h = lt-of-lt-of-le (laws.map-lt vs) (pow-mono {i = length vs} {j = n} (omega arith))
+map-within vs {n = n} e h = lt-of-lt-of-le (laws.map-lt vs) (pow-mono {i = length vs} {j = n} (omega arith))
 
 -- ---- the masks of p parity streams, from a place of a table on
 module _ (table : List ℕ) (start : ℕ) where
@@ -39,29 +39,32 @@ module _ (table : List ℕ) (start : ℕ) where
   masks-count p = upTo-length p (λ j. getD table (start + j) 0)
 
   module _ (j : ℕ) where
-    abbrev v : ℕ
-    v = getD table (start + j) 0
+    abbrev mask : ℕ
+    mask = getD table (start + j) 0
 
-    masks-more : masksAt table start (j + 1) ≡ masksAt table start j ++ (v ∷ [])
+    masks-more : masksAt table start (j + 1) ≡ masksAt table start j ++ (mask ∷ [])
     unfolding masksAt
     masks-more = upTo-more j (λ i. getD table (start + i) 0)
 
-    pub masks-next : layoutMasks (masksAt table start j) ++ cond (eqb v 0) [] (bytes4 v) ≡ layoutMasks (masksAt table start (j + 1))
+    pub masks-next : {v : ℕ} → v ≡ mask
+        → layoutMasks (masksAt table start j) ++ cond (eqb v 0) [] (bytes4 v) ≡ layoutMasks (masksAt table start (j + 1))
     unfolding layoutMasks
-    masks-next =
-        sym
+    masks-next e =
+        ap (λ v. layoutMasks (masksAt table start j) ++ cond (eqb v 0) [] (bytes4 v)) e
+        ∙ sym
         (ap layoutMasks masks-more
-        ∙ laws.masks-append (masksAt table start j) (v ∷ [])
-        ∙ ap (λ l. layoutMasks (masksAt table start j) ++ l) (append-nil (cond (eqb v 0) [] (bytes4 v))))
+        ∙ laws.masks-append (masksAt table start j) (mask ∷ [])
+        ∙ ap (λ l. layoutMasks (masksAt table start j) ++ l) (append-nil (cond (eqb mask 0) [] (bytes4 mask))))
 
     -- the map of the masks passed, x, with this mask's digit d put at its place
-    pub map-next : {x d : ℕ} → j < 32 → x ≡ mapOf (masksAt table start j) → d ≡ stands v → x + d * 2 ^ j % 4294967296 ≡ mapOf (masksAt table start (j + 1))
+    pub map-next : {x d : ℕ} → j < 32 → x ≡ mapOf (masksAt table start j) → d ≡ stands mask
+        → x + d * 2 ^ j % 4294967296 ≡ mapOf (masksAt table start (j + 1))
     unfolding mapOf
     map-next h e q =
-        let one : stands v ≡ mapOf (v ∷ []) = omega arith in
+        let one : stands mask ≡ mapOf (mask ∷ []) = omega arith in
         let place : length (masksAt table start j) ≡ j = masks-count j in
         ap₂ (λ m n. m + n * 2 ^ j % 4294967296) e (q ∙ one)
-        ∙ map-placed (masksAt table start j) (v ∷ []) place (omega arith)
+        ∙ map-placed (masksAt table start j) (mask ∷ []) place (omega arith)
         ∙ sym (ap mapOf masks-more)
 
   pub map-below : (p n : ℕ) → p ≤ n → mapOf (masksAt table start p) < 2 ^ n
@@ -77,9 +80,10 @@ module _ (table : List ℕ) (p : ℕ) where
   rows-more : (i : ℕ) → allRows (rowsOf table (i + 1) p) ≡ allRows (rowsOf table i p) ++ masksAt table (i * 8) p
   unfolding rowsOf
   rows-more i =
-      ap (λ l. allRows (map (λ n. masksAt table (n * 8) p) l)) (upTo-more i (λ n. n))
-      ∙ ap allRows (map-append (λ n. masksAt table (n * 8) p) (upTo i (λ n. n)) (i ∷ []))
-      ∙ all-append (map (λ n. masksAt table (n * 8) p) (upTo i (λ n. n))) (masksAt table (i * 8) p)
+      let row : ℕ → List ℕ = λ n. masksAt table (n * 8) p in
+      ap (λ l. allRows (map row l)) (upTo-more i (λ n. n))
+      ∙ ap allRows (map-append row (upTo i (λ n. n)) (i ∷ []))
+      ∙ all-append (map row (upTo i (λ n. n))) (row i)
 
   pub rows-count : (i : ℕ) → length (allRows (rowsOf table i p)) ≡ i * p
   unfolding upTo allRows rowsOf
@@ -116,7 +120,7 @@ pub check-parts : (vs : List ℕ) {m : ℕ} → m ≡ mapOf vs → (m ∷ []) ++
 unfolding layoutChecks
 check-parts vs e = ap₂ (λ m l. m ∷ l) e (sym (append-nil (layoutMasks vs)))
 
-checks-append : (checks : List (List ℕ)) (more : List (List ℕ)) → layoutChecks (checks ++ more) ≡ layoutChecks checks ++ layoutChecks more
+checks-append : (checks more : List (List ℕ)) → layoutChecks (checks ++ more) ≡ layoutChecks checks ++ layoutChecks more
 unfolding layoutChecks
 checks-append [] more = refl
 checks-append (vs ∷ checks) more =
@@ -127,10 +131,11 @@ pub checks-next : (checks : List ℕ) (i p q : ℕ)
     → layoutChecks (checksOf checks i q p) ++ layoutChecks (masksAt checks (i * 128 + q * 8) p ∷ []) ≡ layoutChecks (checksOf checks i (q + 1) p)
 unfolding checksOf
 checks-next checks i p q =
+    let at : ℕ → List ℕ = λ n. masksAt checks (i * 128 + n * 8) p in
     sym
-    (ap (λ l. layoutChecks (map (λ n. masksAt checks (i * 128 + n * 8) p) l)) (upTo-more q (λ n. n))
-    ∙ ap layoutChecks (map-append (λ n. masksAt checks (i * 128 + n * 8) p) (upTo q (λ n. n)) (q ∷ []))
-    ∙ checks-append (map (λ n. masksAt checks (i * 128 + n * 8) p) (upTo q (λ n. n))) (masksAt checks (i * 128 + q * 8) p ∷ []))
+    (ap (λ l. layoutChecks (map at l)) (upTo-more q (λ n. n))
+    ∙ ap layoutChecks (map-append at (upTo q (λ n. n)) (q ∷ []))
+    ∙ checks-append (map at (upTo q (λ n. n))) (at q ∷ []))
 
 -- ---- the information streams
 streams-append : (streams more : List Stream) → layoutStreams (streams ++ more) ≡ layoutStreams streams ++ layoutStreams more
@@ -140,16 +145,18 @@ streams-append (s ∷ streams) more =
     ap (λ l. s .count ∷ (layoutChecks (s .checks) ++ l)) (streams-append streams more)
     ∙ ap (λ l. s .count ∷ l) (sym (append-assoc (layoutChecks (s .checks)) (layoutStreams streams) (layoutStreams more)))
 
-pub stream-parts : (checks : List ℕ) (i count p : ℕ) → (count ∷ []) ++ layoutChecks (checksOf checks i count p) ≡ layoutStreams (streamOf checks i count p ∷ [])
+pub stream-parts : (checks : List ℕ) (i count p : ℕ)
+    → (count ∷ []) ++ layoutChecks (checksOf checks i count p) ≡ layoutStreams (streamOf checks i count p ∷ [])
 unfolding layoutStreams streamOf
 stream-parts checks i count p = ap (λ l. count ∷ l) (sym (append-nil (layoutChecks (checksOf checks i count p))))
 
-pub streams-next : (counts checks : List ℕ) (p i : ℕ)
-    → layoutStreams (streamsOf counts checks i p) ++ layoutStreams (streamOf checks i (min (getD counts i 0) 16) p ∷ [])
-    ≡ layoutStreams (streamsOf counts checks (i + 1) p)
+pub streams-next : (counts checks : List ℕ) (p i : ℕ) {count : ℕ} → count ≡ min (getD counts i 0) 16
+    → layoutStreams (streamsOf counts checks i p) ++ layoutStreams (streamOf checks i count p ∷ []) ≡ layoutStreams (streamsOf counts checks (i + 1) p)
 unfolding streamsOf
-streams-next counts checks p i =
-    sym
-    (ap (λ l. layoutStreams (map (λ n. streamOf checks n (min (getD counts n 0) 16) p) l)) (upTo-more i (λ n. n))
-    ∙ ap layoutStreams (map-append (λ n. streamOf checks n (min (getD counts n 0) 16) p) (upTo i (λ n. n)) (i ∷ []))
-    ∙ streams-append (map (λ n. streamOf checks n (min (getD counts n 0) 16) p) (upTo i (λ n. n))) (streamOf checks i (min (getD counts i 0) 16) p ∷ []))
+streams-next counts checks p i e =
+    let at : ℕ → Stream = λ n. streamOf checks n (min (getD counts n 0) 16) p in
+    ap (λ n. layoutStreams (map at (upTo i (λ n. n))) ++ layoutStreams (streamOf checks i n p ∷ [])) e
+    ∙ sym
+    (ap (λ l. layoutStreams (map at l)) (upTo-more i (λ n. n))
+    ∙ ap layoutStreams (map-append at (upTo i (λ n. n)) (i ∷ []))
+    ∙ streams-append (map at (upTo i (λ n. n))) (at i ∷ []))

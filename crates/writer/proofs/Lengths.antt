@@ -1,6 +1,6 @@
 -- How long the parts of a written card are at most.
 use Prim.Native.Nat.{ℕ, zero, suc, _+_, _*_, _≤_, min}
-use mathlib.Core.Path.{sym, ap}
+use mathlib.Core.Path.{refl, sym, ap}
 use mathlib.Core.List.{List, [], _∷_}
 use native.Mathlib.Nat.{mul-le-mul-right}
 use native.Mathlib.Numerals.{add-one}
@@ -30,7 +30,7 @@ unfolding layoutRows
 rows-length table k p h n = omega (arith, all-length table p k, few-generators k p h n)
 
 -- ---- the checks
-pub check-length : (table : List ℕ) (start p : ℕ) → p ≤ 8 → length (layoutChecks (masksAt table start p ∷ [])) ≤ 33
+check-length : (table : List ℕ) (start p : ℕ) → p ≤ 8 → length (layoutChecks (masksAt table start p ∷ [])) ≤ 33
 unfolding layoutChecks
 check-length table start p h = omega (arith, masks-length table start p, length-append {A = ℕ} (layoutMasks (masksAt table start p)) [])
 
@@ -48,7 +48,8 @@ checks-length checks i (suc q) p h =
     )
 
 -- ---- the information streams
-pub stream-length : (checks : List ℕ) (i count p : ℕ) → count ≤ 16 → p ≤ 8 → length (layoutStreams (streamOf checks i count p ∷ [])) ≤ 529
+stream-length : (checks : List ℕ) (i count p : ℕ)
+    → count ≤ 16 → p ≤ 8 → length (layoutStreams (streamOf checks i count p ∷ [])) ≤ 529
 unfolding layoutStreams streamOf
 stream-length checks i count p l h =
     omega (arith, checks-length checks i count p h, length-append {A = ℕ} (layoutChecks (checksOf checks i count p)) [])
@@ -60,7 +61,7 @@ streams-length counts checks (suc k) p h =
     omega (
       arith,
       ap (λ n. length (layoutStreams (streamsOf counts checks n p))) (sym (add-one k)),
-      ap length (streams-next counts checks p k),
+      ap length (streams-next counts checks p k refl),
       length-append (layoutStreams (streamsOf counts checks k p)) (layoutStreams (streamOf checks k (min (getD counts k 0) 16) p ∷ [])),
       streams-length counts checks k p h,
       stream-length checks k (min (getD counts k 0) 16) p (omega arith) h,

@@ -1,8 +1,7 @@
 // The parts of a card at a place of the output: the head, the generators, and the checks of the information streams.
 ghost use mathlib.Core.Path.{_≡_};
-ghost use mathlib.Core.List.{[], _∷_, _++_};
-ghost use Prim.Native.Nat.{_+_, _*_, _^_, _<_, _≤_};
-ghost use lib.ListN.{length};
+ghost use mathlib.Core.List.{[], _∷_};
+ghost use Prim.Native.Nat.{_+_, _*_, _<_, _≤_};
 ghost use Rattle.card.specs.Layout.{mapOf, layoutMasks, optional, layoutHead, allRows, layoutRows, layoutChecks, layoutStreams};
 ghost use Rattle.outcomes.specs.Wrote.{Wrote};
 ghost use Rattle.writer.specs.Written.{stated, headOf, masksAt, rowsOf, streamOf, streamsOf};

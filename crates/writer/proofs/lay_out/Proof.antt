@@ -20,8 +20,7 @@ head-requires c κs = search needs
 generators-requires : tie.Need-generators-requires
 generators-requires c κs =
     let after-head = c .before .before .before in
-    let a = after-head .before .before .before .args in
-    (
+    let a = after-head .before .before .before .args in (
       omega arith,
       omega arith,
       omega (arith, after-head .head .ensures .end-is, head-length (headOf (a .number) (a .k) (a .k + a .p) (a .m))),
@@ -32,8 +31,7 @@ streams-requires c κs =
     let after-rows = c .before .before .before in
     let after-head = after-rows .before .before .before .before in
     let start = after-head .before .before .before in
-    let a = start .args in
-    (
+    let a = start .args in (
       omega (arith, start .pre),
       omega (arith, start .pre),
       omega (

@@ -16,7 +16,10 @@ add-result c = search needs
 returns : tie.Need-returns
 returns c =
     let a = c .before .args in
-    record { after-is = ⊎-elim (λ w. w .1) (λ w. w .1 ∙ sym (set-out (a .output .now) (a .at) (a .value) (w .0 .left))) (c .if1 .came); end-is = refl }
+    record {
+      after-is = ⊎-elim (λ w. w .1) (λ w. w .1 ∙ sym (set-out (a .output .now) (a .at) (a .value) (w .0 .left))) (c .if1 .came);
+      end-is = refl;
+    }
 
 same-length : tie.Need-same-length
 same-length c = wrote-length (returns c)

@@ -1,13 +1,10 @@
 -- The masks passed stand in the output from `at` on.
 use Prim.Native.Nat.{ℕ, _-_, _≤_}
-use mathlib.Core.Path.{ap, _∙_}
-use mathlib.Core.Bool.{cond}
-use mathlib.Core.List.{List, [], _++_}
+use mathlib.Core.Path.{ap}
 use native.Mathlib.Nat.{le-antisymm}
 use native.Mathlib.Omega.{arith}
-use lib.Dec.{eqb}
 use Rattle.bits.specs.Sums.{upTo}
-use Rattle.card.specs.Layout.{bytes4, layoutMasks}
+use Rattle.card.specs.Layout.{layoutMasks}
 use Rattle.outcomes.specs.Wrote.{Wrote}
 use Rattle.outcomes.proofs.Writing.{wrote-nothing, wrote-as, wrote-both, wrote-length}
 use Rattle.writer.specs.Written.{masksAt}
@@ -48,13 +45,10 @@ loop-again : tie.Need-loop-again Inv-loop μ-loop
 loop-again c =
     let drawn = c .before .before .before in
     let l = drawn .before .before .before .loop in
-    let a = drawn .before .before .before .before .before .before .args in
-    (
+    let a = drawn .before .before .before .before .before .before .args in (
       omega arith,
-      wrote-as
-      (ap (λ (v : ℕ). layoutMasks (masksAt (a .table .now) (a .start) (l .j)) ++ cond (eqb v 0) [] (bytes4 v)) (drawn .word .ensures)
-      ∙ masks-next (a .table .now) (a .start) (l .j))
-      (wrote-both _ _ (l .inv .1) (c .before .before .mask .ensures)),
+      wrote-as (masks-next (a .table .now) (a .start) (l .j) (drawn .word .ensures))
+          (wrote-both _ _ (l .inv .1) (c .before .before .mask .ensures)),
     )
 
 same-length : tie.Need-same-length Inv-loop μ-loop

@@ -29,8 +29,7 @@ mul-masks c = omega arith
 masks-requires : tie.Need-masks-requires Inv-loop μ-loop
 masks-requires c κs =
     let l = c .before .before .before .loop in
-    let a = c .before .before .before .before .before .args in
-    (
+    let a = c .before .before .before .before .before .args in (
       omega arith,
       omega arith,
       omega (

@@ -34,8 +34,7 @@ field-requires-2 c κs =
     let after-k = c .before .before .before in
     let after-number = after-k .before .before .before .before in
     let after-map = after-number .before .before .before .before in
-    let a = after-map .before .before .before .before .before .args in
-    (
+    let a = after-map .before .before .before .before .before .args in (
       omega (
         arith,
         after-map .byte .ensures .end-is,

@@ -1,7 +1,6 @@
 -- After J the checks passed stand in the output.
 use Prim.Native.Nat.{ℕ, _-_, _≤_}
 use mathlib.Core.Path.{ap, _∙_}
-use mathlib.Core.List.{[], _∷_}
 use native.Mathlib.Nat.{le-antisymm}
 use native.Mathlib.Omega.{arith}
 use Rattle.bits.specs.Sums.{upTo}
@@ -43,8 +42,7 @@ check-requires : tie.Need-check-requires Inv-loop μ-loop
 check-requires c κs =
     let l = c .before .before .loop in
     let after-count = c .before .before .before .before .before in
-    let a = after-count .before .before .before .args in
-    (
+    let a = after-count .before .before .before .args in (
       omega arith,
       omega arith,
       omega (arith, after-count .byte .ensures .end-is, l .inv .1 .end-is, checks-length (a .checks .now) (a .i) (l .q) (a .p) (omega arith)),

@@ -1,14 +1,13 @@
 -- The streams passed stand in the output from `at` on.
 use Prim.Native.Nat.{ℕ, _-_, _≤_}
-use mathlib.Core.Path.{ap, _∙_}
-use mathlib.Core.List.{[], _∷_, _++_}
+use mathlib.Core.Path.{ap}
 use native.Mathlib.Nat.{le-antisymm}
 use native.Mathlib.Omega.{arith}
 use Rattle.bits.specs.Sums.{upTo}
 use Rattle.card.specs.Layout.{layoutStreams}
 use Rattle.outcomes.specs.Wrote.{Wrote}
 use Rattle.outcomes.proofs.Writing.{wrote-nothing, wrote-as, wrote-both, wrote-length}
-use Rattle.writer.specs.Written.{streamOf, streamsOf}
+use Rattle.writer.specs.Written.{streamsOf}
 use Rattle.writer.proofs.Laying.{streams-next}
 use Rattle.writer.proofs.Lengths.{streams-length}
 use Rattle.writer.proofs.parts.streams.Statement.{statement}
@@ -36,8 +35,7 @@ at-most-requires c κs = tt
 stream-requires : tie.Need-stream-requires Inv-loop μ-loop
 stream-requires c κs =
     let l = c .before .before .before .before .loop in
-    let a = c .before .before .before .before .before .before .args in
-    (
+    let a = c .before .before .before .before .before .before .args in (
       omega arith,
       omega (arith, c .at-most .ensures),
       omega arith,
@@ -55,13 +53,10 @@ loop-again c =
     let laid = c .before .before in
     let held = laid .before in
     let l = held .before .before .before .before .loop in
-    let a = held .before .before .before .before .before .before .args in
-    (
+    let a = held .before .before .before .before .before .before .args in (
       omega arith,
-      wrote-as
-      (ap (λ (n : ℕ). layoutStreams (streamsOf (a .counts .now) (a .checks .now) (l .i) (a .p)) ++ layoutStreams (streamOf (a .checks .now) (l .i) n (a .p) ∷ [])) (held .at-most .ensures)
-      ∙ streams-next (a .counts .now) (a .checks .now) (a .p) (l .i))
-      (wrote-both _ _ (l .inv .1) (laid .stream .ensures)),
+      wrote-as (streams-next (a .counts .now) (a .checks .now) (a .p) (l .i) (held .at-most .ensures))
+          (wrote-both _ _ (l .inv .1) (laid .stream .ensures)),
     )
 
 same-length : tie.Need-same-length Inv-loop μ-loop
