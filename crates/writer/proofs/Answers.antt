@@ -2,13 +2,16 @@
 use Prim.Native.Nat.{ℕ, _-_, _≤_, _<_, min}
 use mathlib.Core.Path.{_≡_, refl, sym, ap, ap₂, _∙_}
 use mathlib.Core.List.{List, [], _∷_, _++_}
+use mathlib.Core.Logic.{⊎-elim}
 use native.Mathlib.Omega.{arith}
 use lib.ListN.{length, drop}
-use lib.IntN.{pos, negℤ}
+use lib.IntN.{ℤ, pos, negsuc, negℤ}
+use lib.Signed.{mag}
 use borrow.Author.Tests.{lt-ltb, le-ltb}
+use Rattle.bits.proofs.Cases.{le-or-lt}
 use Rattle.code.specs.declared.Card.{Card}
 use Rattle.card.specs.Layout.{layout}
-use Rattle.outcomes.specs.Outcome.{outcome, refusedOf, givenOf}
+use Rattle.outcomes.specs.Outcome.{BurstOutcome, outcome, refusedOf, givenOf}
 use Rattle.outcomes.specs.Wrote.{Wrote}
 use Rattle.outcomes.proofs.Outcomes.{refused-is, given-is}
 use Rattle.outcomes.proofs.Writing.{wrote-as, wrote-length, wrote-front}
@@ -23,6 +26,19 @@ module _ (c : Card) (output : List ℕ) where
   pub write-given : length (written c) ≤ length output → writeUnder c output ≡ givenOf (written c) output
   unfolding writeUnder
   write-given l = rw (le-ltb (length output) (length (written c)) l)
+
+-- 1 for a refusal
+abbrev below : ℤ → ℕ
+below (pos n) = 0
+below (negsuc n) = 1
+
+-- the count that is answered
+pub count-is : (c : Card) (output : List ℕ) {n : ℕ} {after : List ℕ} → outcome (pos n) after ≡ writeUnder c output → n ≡ length (written c)
+unfolding refusedOf givenOf
+count-is c output e =
+    ⊎-elim (λ l. ap (λ (b : BurstOutcome). mag (b .answer)) (e ∙ write-given c output l))
+    (λ l. let z : 0 ≡ 1 = ap (λ (b : BurstOutcome). below (b .answer)) (e ∙ write-short c output l) in absurd (omega arith))
+    (le-or-lt (length (written c)) (length output))
 
 -- the numbers that are held to what the tables have places for
 pub laid-is : (c : Card) {k p m : ℕ} → k ≡ min (c .k) 4 → p ≡ min (c .p) (8 - k) → m ≡ min (c .m) 31

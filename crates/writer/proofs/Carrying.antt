@@ -11,9 +11,11 @@ use Rattle.bits.proofs.Cases.{le-or-lt}
 use Rattle.code.specs.declared.Card.{Card}
 use Rattle.card.specs.Fields.{Fields, cardOf}
 use Rattle.card.specs.Layout.{Acceptable}
-use Rattle.card.specs.Outcome.{Outcome, CardOutcome}
+use Rattle.card.specs.Outcome.{Outcome, CardOutcome, outcomeOf}
 use Rattle.card.specs.Outcome.Outcome.{accepted, refused}
+use Rattle.card.specs.Promise.{CardPromise}
 use Rattle.card.specs.Reading.{readCard}
+use Rattle.card.specs.declared.CardRead.{CardRead}
 use Rattle.card.proofs.Acceptance as acceptance
 use Rattle.outcomes.specs.Outcome.{BurstOutcome, outcome, refusedOf, givenOf, underCard}
 use Rattle.writer.specs.Written.{written}
@@ -57,20 +59,37 @@ module _ (output : List ℕ) {answer : ℤ} {after : List ℕ} {n : ℕ} (positi
   read-back card accepted c e q = ap readCard (written-bytes c q) ∙ written-form c .reads-back card e ∙ sym e
   read-back card (refused m at) c e q = absurd (not-refused m q)
 
+-- ---- the card that is read
+
+-- a card that is accepted has a written form that is no longer than any card
+pub accepted-length : (card : List ℕ) (read : CardRead) → CardPromise card read → outcomeOf (read .verdict) ≡ accepted → length (written (read .card)) ≤ 1163
+accepted-length card read promise e =
+    written-form (read .card) .length-most card (sym (promise .is-read) ∙ ap (λ (o : Outcome). record { outcome = o; card = read .card }) e)
+
 -- ---- the claims of a call
 module _ (card output : List ℕ) where
-  come-back : (f : Fields) → Acceptable card f → StatesNoDefault f → length card ≤ length output → writeOf card output ≡ givenOf card output
+  fit : (f : Fields) → Acceptable card f → length card ≤ length output → writeOf card output ≡ givenOf (written (cardOf f)) output
   unfolding writeOf underCard
-  come-back f a s room =
-      let same : written (cardOf f) ≡ card = written-form (cardOf f) .one-only card f (record { acceptable = a; card-is = refl; states-none = s }) in
+  fit f a room =
       ap (λ (r : CardOutcome). underCard (r .outcome) (writeUnder (r .card) output) output) (acceptance.reads-back card f a)
-      ∙ write-given (cardOf f) output (omega (arith, ap length same))
-      ∙ ap (λ (bytes : List ℕ). givenOf bytes output) same
+      ∙ write-given (cardOf f) output (omega (arith, written-form (cardOf f) .shortest card f a refl))
 
-  pub carries-on : {answer : ℤ} {after : List ℕ} → outcome answer after ≡ writeOf card output → CarriesOn card output answer after
+  come-back : (f : Fields) → Acceptable card f → StatesNoDefault f → length card ≤ length output → writeOf card output ≡ givenOf card output
+  come-back f a s room =
+      fit f a room
+      ∙ ap (λ (bytes : List ℕ). givenOf bytes output)
+      (written-form (cardOf f) .one-only card f (record { acceptable = a; card-is = refl; states-none = s }))
+
+  carries-on : {answer : ℤ} {after : List ℕ} → outcome answer after ≡ writeOf card output → CarriesOn card output answer after
   unfolding writeOf
   carries-on e =
       record {
         reads-back = λ n positive count. read-back output positive count card (readCard card .outcome) (readCard card .card) refl e;
+        fits = λ f a room. e ∙ fit f a room;
         comes-back = λ f a s room. e ∙ come-back f a s room;
       }
+
+  -- both clauses of the promise
+  pub wrote-card : {answer : ℤ} {after : List ℕ} → outcome answer after ≡ writeOf card output
+      → (outcome answer after ≡ writeOf card output) × CarriesOn card output answer after
+  wrote-card e = (e, carries-on e)

@@ -1,21 +1,21 @@
 -- The written form of a card, and what it is good for: it is read as that card, states no default, and is the only such form.
-use Prim.Native.Nat.{ℕ, _≤_, _<_}
+use Prim.Native.Nat.{ℕ, _+_, _≤_, _<_}
 use mathlib.Core.Path.{_≡_, refl, sym, ap, ap₂, subst, _∙_}
 use mathlib.Core.Logic.{⊎-elim}
-use mathlib.Core.List.{List}
+use mathlib.Core.List.{List, [], _∷_, _++_}
 use native.Mathlib.Omega.{arith}
-use lib.ListN.{length}
+use lib.ListN.{length, length-append}
 use borrow.Author.Tests.{eq-eqb, ne-eqb}
 use Rattle.bits.proofs.Cases.{same-or-not}
 use Rattle.code.specs.Checks.{Orthogonal}
 use Rattle.code.specs.declared.Card.{Card}
 use Rattle.card.specs.Fields.{Head, Fields, cardOf}
-use Rattle.card.specs.Layout.{layout, InLimits, TrulyOrthogonal, Acceptable}
+use Rattle.card.specs.Layout.{optional, layoutHead, layoutRows, layoutStreams, layout, InLimits, TrulyOrthogonal, Acceptable}
 use Rattle.card.specs.Outcome.{CardOutcome}
 use Rattle.card.specs.Outcome.Outcome.{accepted}
 use Rattle.card.specs.Reading.{readCard}
 use Rattle.card.proofs.Acceptance.{reads-back}
-use Rattle.card.proofs.CardLength.{layout-length}
+use Rattle.card.proofs.CardLength.{optional-length, layout-length}
 use Rattle.card.proofs.WholeReading.{accepted-read}
 use Rattle.card.proofs.Limits.{read-in, read-standing}
 use Rattle.card.proofs.Orthogonality.{standing-truly}
@@ -51,6 +51,24 @@ stands-as {stands} default v most out plain =
     one : (v ≡ default → ⊥) → stands ≡ 1
     one n = ⊎-elim (λ z. absurd (n (out z))) (λ z. omega arith) (same-or-not stands 0)
 
+-- a field that is left out only where it has its default is written in no more bytes than it was stated in
+field-shorter : {stands : ℕ} (default v : ℕ) → stands ≤ 1 → (stands ≡ 0 → v ≡ default) → length (optional (stated default v) v) ≤ length (optional stands v)
+unfolding optional
+field-shorter {stands} default v most out =
+    ⊎-elim (λ z. rw (default-stated default v (out z), z) (omega arith)) (λ n. rw (one n) (optional-length (stated default v) v)) (same-or-not stands 0)
+  where
+    one : (stands ≡ 0 → ⊥) → stands ≡ 1
+    one n = omega arith
+
+head-size : (h : Head) → length (layoutHead h) ≡ 3 + (length (optional (h .kStands) (h .k)) + length (optional (h .nStands) (h .n)))
+unfolding layoutHead
+head-size h =
+    omega (
+      arith,
+      length-append (optional (h .kStands) (h .k)) (optional (h .nStands) (h .n) ++ (h .m ∷ [])),
+      length-append (optional (h .nStands) (h .n)) (h .m ∷ []),
+    )
+
 -- ---- fields without defaults
 module _ (f : Fields) where
   states-none : StatesNoDefault (withoutDefaults f)
@@ -85,6 +103,20 @@ module _ (f : Fields) where
         stream-count = w .stream-count;
         streams-in = w .streams-in;
       }
+
+  layout-shorter : InLimits f → length (layout (withoutDefaults f)) ≤ length (layout f)
+  unfolding layout
+  layout-shorter w =
+      let rest = layoutRows (f .rows) ++ layoutStreams (f .streams) in
+      omega (
+        arith,
+        length-append (layoutHead (withoutDefaults f .head)) rest,
+        length-append (layoutHead (f .head)) rest,
+        head-size (withoutDefaults f .head),
+        head-size (f .head),
+        field-shorter 1 (f .head .k) (w .kStands-bit) (w .k-default),
+        field-shorter 2 (f .head .n) (w .nStands-bit) (w .n-default),
+      )
 
   same-card : cardOf (withoutDefaults f) ≡ cardOf f
   unfolding cardOf
@@ -142,5 +174,17 @@ module _ (c : Card) where
       let form = plain-form bytes e in
       omega (arith, layout-length (form .0) (form .1 .acceptable .limits), ap length (form .1 .acceptable .bytes-are))
 
+  shortest-form : (bytes : List ℕ) (f : Fields) → Acceptable bytes f → cardOf f ≡ c → length (written c) ≤ length bytes
+  unfolding written
+  shortest-form bytes f a e =
+      omega (
+        arith,
+        ap (λ (c : Card). length (layout (fieldsOf c))) (sym e),
+        ap (λ (f : Fields). length (layout f)) (fields-back f (a .limits)),
+        layout-shorter f (a .limits),
+        ap length (a .bytes-are),
+      )
+
   pub written-form : WrittenForm c
-  written-form = record { reads-back = read-form; states-none = plain-form; one-only = only-form; length-most = form-length }
+  written-form =
+      record { reads-back = read-form; states-none = plain-form; one-only = only-form; length-most = form-length; shortest = shortest-form }

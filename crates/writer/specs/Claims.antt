@@ -38,10 +38,14 @@ pub record WrittenForm (c : Card) : Type 0 where
   -- .. and no other
   pub one-only : (bytes : List ℕ) (f : Fields) → Plain c bytes f → written c ≡ bytes
   pub length-most : (bytes : List ℕ) → ReadsAs bytes c → length (written c) ≤ 1163
+  -- of no acceptable bytes of the card are there fewer
+  pub shortest : (bytes : List ℕ) (f : Fields) → Acceptable bytes f → cardOf f ≡ c → length (written c) ≤ length bytes
 
 -- of a call with a card's bytes: the answer, and the output as the call leaves it
 pub record CarriesOn (card output : List ℕ) (answer : ℤ) (after : List ℕ) : Type 0 where
   -- an answer above zero is the count of bytes that are read as the same card
   pub reads-back : (n : ℕ) → 0 < n → answer ≡ pos n → readCard (take n after) ≡ readCard card
+  -- an output as long as the card is room enough
+  pub fits : (f : Fields) → Acceptable card f → length card ≤ length output → outcome answer after ≡ givenOf (written (cardOf f)) output
   -- a card that states no default comes back byte for byte
   pub comes-back : (f : Fields) → Acceptable card f → StatesNoDefault f → length card ≤ length output → outcome answer after ≡ givenOf card output
