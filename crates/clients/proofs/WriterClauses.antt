@@ -58,6 +58,13 @@ unfolding givenOf
 comes-back-P output room claim =
     claim .comes-back fieldsP acceptable-P none-stated-P (omega arith)
 
+pub fits-P : (output : List ℕ) → length output ≡ 20 → {r : ℤ} {after : List ℕ} → CarriesOn cardP output r after → r ≡ pos 20
+unfolding givenOf
+fits-P output room claim =
+    ap (λ (b : BurstOutcome). b .answer) (claim .fits fieldsP acceptable-P (omega arith))
+    ∙ ap (λ (c : Card). pos (length (written c))) (plain-P .card-is)
+    ∙ ap (λ (l : List ℕ). pos (length l)) written-P
+
 pub carried-on-T : (output : List ℕ) → length output ≡ 37 → {r : ℤ} {after : List ℕ} → length after ≡ 37
     → outcome r after ≡ writeOf bytesT output → CarriesOn bytesT output r after → readCard after ≡ record { outcome = accepted; card = T }
 unfolding givenOf checks
@@ -99,4 +106,5 @@ module _ (read : CardRead) (promise : CardPromise statedP read) where
         states-none = form .states-none statedP read-stated-P;
         one-only = form .one-only cardP fieldsP plain-P;
         length-most = form .length-most statedP read-stated-P;
+        shortest = form .shortest cardP fieldsP acceptable-P (plain-P .card-is);
       }

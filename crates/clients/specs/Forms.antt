@@ -1,6 +1,6 @@
 -- What the written form of card P is: document 02, R-1.
 -- Assumes nothing.
-use Prim.Native.Nat.{ℕ, _≤_}
+use Prim.Native.Nat.{_≤_}
 use mathlib.Core.Path.{_≡_}
 use lib.ListN.{length}
 use Rattle.code.specs.Bench.{P}
@@ -14,3 +14,4 @@ pub record FormOfP : Type 0 where
   pub states-none : (f : Fields) × Plain P (written P) f
   pub one-only : written P ≡ cardP
   pub length-most : length (written P) ≤ 1163
+  pub shortest : length (written P) ≤ 20

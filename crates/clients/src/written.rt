@@ -1,5 +1,4 @@
 // Clients of the promises of the card writer.
-ghost use Prim.Native.Nat.{ℕ};
 ghost use mathlib.Core.Path.{_≡_};
 ghost use mathlib.Core.List.{_++_};
 ghost use lib.ListN.{drop};
@@ -23,6 +22,13 @@ pub fn p_comes_back(output: &mut [u8; 22]) -> i32
     burst::write::card_write(&P, output)
 }
 
+// An output just as long as P is room enough: `fits`.
+pub fn p_fits(output: &mut [u8; 20]) -> i32
+    ensures { λ r. ⌜ r ≡ pos 20 ⌝ }
+{
+    burst::write::card_write(&P, output)
+}
+
 // What is written of T is read as T: `reads-back`.
 pub fn t_is_carried_on(output: &mut [u8; 37]) -> i32
     ensures { λ r. ⌜ readCard (now (output .exit)) ≡ record { outcome = accepted; card = Bench.T } ⌝ }
@@ -40,7 +46,7 @@ pub fn default_is_left_out(output: &mut [u8; 18]) -> i32
     )
 }
 
-// An output that is a byte too short is left as it was; the card's refusal comes before that.
+// One that is a byte shorter is left as it was; the card's refusal comes before that.
 pub fn p_finds_no_room(output: &mut [u8; 19]) -> i32
     ensures { λ r. ⌜ outcome r (now (output .exit)) ≡ outcome (negℤ (pos 13)) (now (output .entry)) ⌝ }
 {
