@@ -5,7 +5,7 @@ use mathlib.Core.List.{List, [], _∷_, _++_}
 use mathlib.Core.Logic.{⊎-elim}
 use native.Mathlib.Omega.{arith}
 use lib.ListN.{length, drop}
-use lib.IntN.{ℤ, pos, negsuc, negℤ}
+use lib.IntN.{pos, negℤ, pos-ne-negsuc}
 use lib.Signed.{mag}
 use borrow.Author.Tests.{lt-ltb, le-ltb}
 use Rattle.bits.proofs.Cases.{le-or-lt}
@@ -27,18 +27,17 @@ module _ (c : Card) (output : List ℕ) where
   unfolding writeUnder
   write-given l = rw (le-ltb (length output) (length (written c)) l)
 
--- 1 for a refusal
-abbrev below : ℤ → ℕ
-below (pos n) = 0
-below (negsuc n) = 1
+  -- a count that is answered is that of the written bytes, which stand in the output
+  module _ {n : ℕ} {after : List ℕ} (e : outcome (pos n) after ≡ writeUnder c output) where
+    pub answered : outcome (pos n) after ≡ givenOf (written c) output
+    unfolding refusedOf
+    answered =
+        ⊎-elim (λ l. e ∙ write-given l) (λ l. absurd (pos-ne-negsuc n 12 (ap (λ (b : BurstOutcome). b .answer) (e ∙ write-short l))))
+        (le-or-lt (length (written c)) (length output))
 
--- the count that is answered
-pub count-is : (c : Card) (output : List ℕ) {n : ℕ} {after : List ℕ} → outcome (pos n) after ≡ writeUnder c output → n ≡ length (written c)
-unfolding refusedOf givenOf
-count-is c output e =
-    ⊎-elim (λ l. ap (λ (b : BurstOutcome). mag (b .answer)) (e ∙ write-given c output l))
-    (λ l. let z : 0 ≡ 1 = ap (λ (b : BurstOutcome). below (b .answer)) (e ∙ write-short c output l) in absurd (omega arith))
-    (le-or-lt (length (written c)) (length output))
+    pub count-is : n ≡ length (written c)
+    unfolding givenOf
+    count-is = ap (λ (b : BurstOutcome). mag (b .answer)) answered
 
 -- the numbers that are held to what the tables have places for
 pub laid-is : (c : Card) {k p m : ℕ} → k ≡ min (c .k) 4 → p ≡ min (c .p) (8 - k) → m ≡ min (c .m) 31

@@ -1,13 +1,12 @@
 -- What a call with a card's bytes is good for.
 use Prim.Native.Nat.{ℕ, zero, suc, _≤_, _<_}
-use mathlib.Core.Path.{_≡_, refl, sym, ap, subst, _∙_}
-use mathlib.Core.Logic.{⊎-elim}
-use mathlib.Core.List.{List, _++_}
+use mathlib.Core.Path.{_≡_, refl, sym, ap, _∙_}
+use mathlib.Core.List.{List}
 use native.Mathlib.Omega.{arith}
 use lib.ListN.{length, take, drop}
 use lib.Seq.{take-at}
-use lib.IntN.{ℤ, pos, negsuc, negℤ}
-use Rattle.bits.proofs.Cases.{le-or-lt}
+use lib.IntN.{ℤ, pos, pos-ne-negsuc}
+use lib.Signed.{mag}
 use Rattle.code.specs.declared.Card.{Card}
 use Rattle.card.specs.Fields.{Fields, cardOf}
 use Rattle.card.specs.Layout.{Acceptable}
@@ -20,41 +19,25 @@ use Rattle.card.proofs.Acceptance as acceptance
 use Rattle.outcomes.specs.Outcome.{BurstOutcome, outcome, refusedOf, givenOf, underCard}
 use Rattle.writer.specs.Written.{written}
 use Rattle.writer.specs.Outcome.{writeUnder, writeOf}
-use Rattle.writer.specs.Claims.{ReadsAs, StatesNoDefault, CarriesOn}
-use Rattle.writer.proofs.Answers.{write-short, write-given}
+use Rattle.writer.specs.Claims.{StatesNoDefault, CarriesOn}
+use Rattle.writer.proofs.Answers.{write-given, answered, count-is}
 use Rattle.writer.proofs.Forms.{written-form}
 
--- ---- an answer above zero is no refusal, and the count of what was given
-
--- the count in an answer
-abbrev above : ℤ → ℕ
-above (pos n) = n
-above (negsuc n) = 0
-
-minus-above : (n : ℕ) → above (negℤ (pos n)) ≡ 0
-minus-above zero = refl
-minus-above (suc n) = refl
-
-module _ (output : List ℕ) {answer : ℤ} {after : List ℕ} {n : ℕ} (positive : 0 < n) (count : answer ≡ pos n) where
-  not-refused : (m : ℕ) → outcome answer after ≡ refusedOf m output → ⊥
+-- ---- an answer above zero
+module _ (output : List ℕ) {after : List ℕ} (n : ℕ) (positive : 0 < n) where
+  not-refused : (m : ℕ) → outcome (pos n) after ≡ refusedOf m output → ⊥
   unfolding refusedOf
-  not-refused m e =
-      let z : n ≡ 0 = ap above (sym count ∙ ap (λ (b : BurstOutcome). b .answer) e) ∙ minus-above m in
-      omega arith
+  not-refused zero e = let z : n ≡ 0 = ap (λ (b : BurstOutcome). mag (b .answer)) e in omega arith
+  not-refused (suc m) e = pos-ne-negsuc n m (ap (λ (b : BurstOutcome). b .answer) e)
 
-  given-bytes : (bytes : List ℕ) → outcome answer after ≡ givenOf bytes output → take n after ≡ bytes
+  written-bytes : (c : Card) → outcome (pos n) after ≡ writeUnder c output → take n after ≡ written c
   unfolding givenOf
-  given-bytes bytes e =
-      let q : n ≡ length bytes = ap above (sym count ∙ ap (λ (b : BurstOutcome). b .answer) e) in
-      ap (λ (b : BurstOutcome). take n (b .output)) e ∙ take-at bytes (drop (length bytes) output) n (sym q)
-
-  written-bytes : (c : Card) → outcome answer after ≡ writeUnder c output → take n after ≡ written c
   written-bytes c e =
-      ⊎-elim (λ l. given-bytes (written c) (e ∙ write-given c output l)) (λ l. absurd (not-refused 13 (e ∙ write-short c output l)))
-      (le-or-lt (length (written c)) (length output))
+      ap (λ (b : BurstOutcome). take n (b .output)) (answered c output e)
+      ∙ take-at (written c) (drop (length (written c)) output) n (sym (count-is c output e))
 
   read-back : (card : List ℕ) (o : Outcome) (c : Card) → readCard card ≡ record { outcome = o; card = c }
-      → outcome answer after ≡ underCard o (writeUnder c output) output → readCard (take n after) ≡ readCard card
+      → outcome (pos n) after ≡ underCard o (writeUnder c output) output → readCard (take n after) ≡ readCard card
   unfolding underCard
   read-back card accepted c e q = ap readCard (written-bytes c q) ∙ written-form c .reads-back card e ∙ sym e
   read-back card (refused m at) c e q = absurd (not-refused m q)
@@ -82,9 +65,10 @@ module _ (card output : List ℕ) where
 
   carries-on : {answer : ℤ} {after : List ℕ} → outcome answer after ≡ writeOf card output → CarriesOn card output answer after
   unfolding writeOf
-  carries-on e =
+  carries-on {after = after} e =
       record {
-        reads-back = λ n positive count. read-back output positive count card (readCard card .outcome) (readCard card .card) refl e;
+        reads-back = λ n positive count.
+            read-back output n positive card (readCard card .outcome) (readCard card .card) refl (ap (λ (z : ℤ). outcome z after) (sym count) ∙ e);
         fits = λ f a room. e ∙ fit f a room;
         comes-back = λ f a s room. e ∙ come-back f a s room;
       }

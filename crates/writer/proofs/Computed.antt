@@ -1,7 +1,5 @@
 -- The written form of cards of the bench, by computing, and what bytes with a stated default are read as.
-use Prim.Native.Nat.{ℕ}
 use mathlib.Core.Path.{_≡_, refl}
-use mathlib.Core.List.{List}
 use Rattle.bits.specs.Sums.{sumBelow, upTo, back}
 use Rattle.bits.specs.Digits.{bit}
 use Rattle.code.specs.Bench.{P, T}

@@ -1,5 +1,5 @@
 -- The written form of a card, and what it is good for: it is read as that card, states no default, and is the only such form.
-use Prim.Native.Nat.{ℕ, _+_, _≤_, _<_}
+use Prim.Native.Nat.{ℕ, _+_, _≤_}
 use mathlib.Core.Path.{_≡_, refl, sym, ap, ap₂, subst, _∙_}
 use mathlib.Core.Logic.{⊎-elim}
 use mathlib.Core.List.{List, [], _∷_, _++_}
@@ -13,13 +13,12 @@ use Rattle.card.specs.Fields.{Head, Fields, cardOf}
 use Rattle.card.specs.Layout.{optional, layoutHead, layoutRows, layoutStreams, layout, InLimits, TrulyOrthogonal, Acceptable}
 use Rattle.card.specs.Outcome.{CardOutcome}
 use Rattle.card.specs.Outcome.Outcome.{accepted}
-use Rattle.card.specs.Reading.{readCard}
 use Rattle.card.proofs.Acceptance.{reads-back}
 use Rattle.card.proofs.CardLength.{optional-length, layout-length}
 use Rattle.card.proofs.WholeReading.{accepted-read}
 use Rattle.card.proofs.Limits.{read-in, read-standing}
 use Rattle.card.proofs.Orthogonality.{standing-truly}
-use Rattle.writer.specs.Written.{stated, headOf, fieldsOf, written}
+use Rattle.writer.specs.Written.{stated, fieldsOf, written}
 use Rattle.writer.specs.Claims.{ReadsAs, StatesNoDefault, Plain, WrittenForm}
 use Rattle.writer.proofs.FieldsBack.{withoutDefaults, fields-back}
 

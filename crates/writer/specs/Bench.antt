@@ -1,7 +1,7 @@
 -- Cards whose written form is computed: those of document 01's bench, with and without their defaults stated, and one with two parity streams.
 -- Assumes nothing.
 use Prim.Native.Nat.{ℕ}
-use mathlib.Core.List.{List, _∷_, _++_, []}
+use mathlib.Core.List.{List, _∷_, _++_}
 use lib.ListN.{drop, replicate}
 use Rattle.code.specs.declared.Card.{Card}
 use Rattle.card.specs.Bench.{mask, cardP}

@@ -9,7 +9,6 @@ use lib.IntN.{ℤ, pos}
 use Rattle.code.specs.declared.Card.{Card}
 use Rattle.card.specs.Fields.{Fields, cardOf}
 use Rattle.card.specs.Layout.{Acceptable}
-use Rattle.card.specs.Outcome.{CardOutcome}
 use Rattle.card.specs.Outcome.Outcome.{accepted}
 use Rattle.card.specs.Reading.{readCard}
 use Rattle.outcomes.specs.Outcome.{outcome, givenOf}
