@@ -8,7 +8,7 @@
  *
  * A probe measures a temperature every few minutes and sends the last six as one burst. The loop below
  * plays the probe and the link as well: it sends by burst_send, spoils some digits, and receives by
- * burst_receive. */
+ * burst_receive. At the end the card is written out, for the unit in the next tunnel. */
 #include "burst.h"
 
 #include <stdio.h>
@@ -114,6 +114,21 @@ static void serve(const uint8_t *by_card, size_t card_length, const uint8_t temp
     show("received", shown);
 }
 
+/* The card as it is carried to the next tunnel. */
+static void show_written(void)
+{
+    uint8_t written[BURST_MOST_CARD_BYTES]; /* enough, whatever the card */
+
+    int32_t length = card_write(card, sizeof card, written, sizeof written);
+    if (length < 0) {
+        printf("not written: refusal %d, %s\n", (int)-length, meaning((int)-length));
+        return;
+    }
+    printf("the card, %d bytes\n", (int)length);
+    for (int32_t b = 0; b < length; b++)
+        printf("%s%02x%s", b % 16 == 0 ? "  " : " ", written[b], b % 16 == 15 || b == length - 1 ? "\n" : "");
+}
+
 int main(void)
 {
     static const uint8_t temperatures[TEMPERATURES] = {58, 58, 59, 61, 60, 62};
@@ -126,5 +141,7 @@ int main(void)
     memcpy(damaged, card, sizeof card);
     damaged[22] = 0x04; /* the second check of stream 1 on the frame after the next, where its digit is not */
     serve(damaged, sizeof damaged, temperatures, 0);
+
+    show_written();
     return 0;
 }

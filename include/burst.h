@@ -1,4 +1,5 @@
-/* burst.h: convolutional coding and threshold decoding of whole bursts, for controller firmware.
+/* burst.h: convolutional coding and threshold decoding of whole bursts, for controller firmware; and link
+ * cards written out, to be carried from one unit to the next.
  *
  * Link with libburst.a (`rt staticlib burst` writes it to target/staticlib/), on x86-64. C99 or later, or C++.
  * examples/firmware.c is a whole program over this header.
@@ -14,8 +15,8 @@
  *     burst_receive   received frames, in         ->  information frames, out, corrected
  *
  * Which code is used, and how the receiver votes on each digit, stands on a link card: a row of 15
- * to 1,163 bytes that you get with the probe. Both functions take the card's bytes at each call,
- * read them and test them; there is nothing to open, to keep or to close.
+ * to 1,163 bytes that you get with the probe. Each function takes the card's bytes at each call,
+ * reads them and tests them; there is nothing to open, to keep or to close.
  *
  *     uint8_t link[3 + BURST_MOST_MEMORY], came[3];
  *     int32_t sent = burst_send(card, sizeof card, information, 3, link, sizeof link);
@@ -26,6 +27,11 @@
  *     if (count < 0)
  *         return show_refusal(-count);
  *     .. came[0] to came[count - 1] are the information frames ..
+ *
+ * A third function has nothing to do with frames. It gives a card back in the one form in which cards
+ * are stored and carried (see "Cards written out" below):
+ *
+ *     card_write      a card, in                  ->  the same card in its written form, out
  *
  *
  * Frames
@@ -54,16 +60,38 @@
  * of input_length bytes for burst_receive. An empty burst is fine: burst_send then gives the tail alone.
  *
  *
+ * Cards written out
+ * -----------------
+ * A card that was tuned on one unit can be carried to the next tunnel. The same card may be stated in
+ * several ways: k is 1 and n is 2 where a card doesn't state them, and it may state them all the same.
+ * card_write leaves out what is the default and keeps all the rest, the order of the checks too:
+ *
+ *     uint8_t written[BURST_MOST_CARD_BYTES];
+ *     int32_t length = card_write(card, card_length, written, sizeof written);
+ *     if (length < 0)
+ *         return show_refusal(-length);
+ *     .. written[0] to written[length - 1] are the card, for the next unit ..
+ *
+ * - The written bytes are a good card, and the same one: each function here does by them just what it
+ *   does by the card that was read.
+ * - A card has one written form only. So two cards are equal, the order of their checks included,
+ *   exactly if their written bytes are.
+ * - A card that states no default comes back byte for byte; one that does comes back a byte shorter for
+ *   each. What was written comes back as it is when it is written again.
+ * - BURST_MOST_CARD_BYTES bytes of output are enough for every card, and so are card_length bytes.
+ *
+ *
  * The answer
  * ----------
- * 0 or more: the count of output frames, one byte each. Just that many bytes of the output were
- * written, from its first byte on; those beyond are as they were.
+ * 0 or more: the count of output bytes, which are frames, one byte each, or from card_write a card. Just
+ * that many bytes of the output were written, from its first byte on; those beyond are as they were.
  *
  * Less than 0: minus the number of a refusal, one of enum burst_refusal. Nothing was written.
  *
  * Every possible input has one of these answers: there is nothing that you must test before the call,
  * provided each pointer and length tell the truth (see "What you owe" below). Which refusal is met
- * first is fixed too: the card's (1 to 10, in the order of its bytes), then 15, then 13, then 11.
+ * first is fixed too: the card's (1 to 10, in the order of its bytes), then 15, then 13, then 11. From
+ * card_write there are the card's, then 13.
  *
  *
  * What is corrected
@@ -81,18 +109,20 @@
  * ------------
  * - Each pointer points to as many bytes as the length after it says, and that memory is yours for the
  *   whole call: nobody else writes the card, the input or the output while it runs.
- * - The output overlaps neither the card nor the input. (Card and input may overlap.)
+ * - The output overlaps neither the card nor the input. (Card and input may overlap.) So a card can't be
+ *   written over itself: write it elsewhere, and copy it.
  * - With length 0 the pointer isn't looked at, and may be null. With any other length it may not be null.
  * - No pointer needs to be aligned. A length is at most PTRDIFF_MAX, as for every object in C.
  *
  *
  * What you get
  * ------------
- * - Only the output is written, and of it only the frames that the answer counts.
+ * - Only the output is written, and of it only the bytes that the answer counts.
  * - No memory is allocated, no file or device is touched, nothing is kept from one call to the next. So
  *   the functions may be called from several threads at once, each with an output of its own.
  * - A call takes less than BURST_STACK_BYTES of stack, most of it for the card that is being read:
- *   measured, 7,240 bytes by burst_send and 10,008 by burst_receive. `tests/run` measures it again.
+ *   measured, 7,240 bytes by burst_send, 10,008 by burst_receive and 9,336 by card_write. `tests/run`
+ *   measures it again.
  * - Each call ends. It takes time in proportion to the frames, after the reading of the card.
  * - Of the C library only memcpy and memset are needed.
  *
@@ -135,9 +165,9 @@ enum burst_refusal {
     BURST_OWN_DIGIT_UNTOUCHED = 8,      /* a check doesn't look at the digit that it votes on */
     BURST_ERROR_TOUCHED_BEFORE = 9,     /* two checks on one digit look at the same other digit */
 
-    /* The card is good, but the burst is not: */
+    /* The card is good, but the burst or the output is not: */
     BURST_DIGIT_BEYOND_STREAMS = 11,    /* an input frame has a bit beyond its streams (k for burst_send, n for burst_receive) */
-    BURST_OUTPUT_TOO_SHORT = 13,        /* the output has room for fewer frames than there will be */
+    BURST_OUTPUT_TOO_SHORT = 13,        /* the output has room for fewer bytes than there will be */
     BURST_TOO_MANY_FRAMES = 15          /* more than BURST_MOST_FRAMES as sent, with the tail */
 };
 
@@ -163,6 +193,16 @@ int32_t burst_send(const uint8_t *card, size_t card_length,
 int32_t burst_receive(const uint8_t *card, size_t card_length,
                       const uint8_t *input, size_t input_length,
                       uint8_t *output, size_t output_length);
+
+/* Writes a card out: its bytes in, the bytes of its one written form out; see "Cards written out" above.
+ *
+ *   card, card_length       the link card
+ *   output, output_length   receives the written card; BURST_MOST_CARD_BYTES are always room enough
+ *
+ * Answers the count of output bytes, at most card_length, or minus a refusal (enum burst_refusal): the card's,
+ * as burst_send refuses it, or else BURST_OUTPUT_TOO_SHORT. */
+int32_t card_write(const uint8_t *card, size_t card_length,
+                   uint8_t *output, size_t output_length);
 
 #ifdef __cplusplus
 }

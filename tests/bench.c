@@ -115,7 +115,7 @@ static void open_subject(struct subject *s, const char *name)
         bench_card(name[0], &s->fields);
     else
         random_card_of_shape(&r, 3, 6, 12, MOST_CHECKS, 4, &s->fields);
-    s->card_length = write_card(&s->fields, 0, 0, s->card);
+    s->card_length = card_bytes(&s->fields, 0, 0, s->card);
     plain_read(s->card, &s->plain);
 }
 

@@ -57,7 +57,7 @@ static uint8_t *write_generators(const struct fields *card, uint8_t *at)
     return at;
 }
 
-size_t write_card(const struct fields *card, int state_k, int state_n, uint8_t *bytes)
+size_t card_bytes(const struct fields *card, int state_k, int state_n, uint8_t *bytes)
 {
     uint8_t *at = bytes;
     int k_stands = state_k || card->k != 1, n_stands = state_n || card->n != 2;
@@ -75,6 +75,67 @@ size_t write_card(const struct fields *card, int state_k, int state_n, uint8_t *
             at = write_check(card, i, q, at);
     }
     return (size_t)(at - bytes);
+}
+
+/* ---- What is left out ---- */
+
+static int has_zero_mask(const int masks[MOST_PARITY + 1][MOST_MEMORY + 1], int p)
+{
+    for (int j = 1; j <= p; j++)
+        if (!stands(masks[j]))
+            return 1;
+    return 0;
+}
+
+int has_zero_generator(const struct fields *card)
+{
+    for (int i = 1; i <= card->k; i++)
+        if (has_zero_mask(card->g[i], card->p))
+            return 1;
+    return 0;
+}
+
+int has_zero_check_mask(const struct fields *card)
+{
+    for (int i = 1; i <= card->k; i++)
+        for (int q = 1; q <= card->J[i]; q++)
+            if (has_zero_mask(card->check[i][q], card->p))
+                return 1;
+    return 0;
+}
+
+/* Where n is, if it stands: after k, if that stands. */
+static size_t place_of_n(const uint8_t *card)
+{
+    return card[0] % 2 == 1 ? 3 : 2;
+}
+
+int states_default_k(const uint8_t *card)
+{
+    return card[0] % 2 == 1 && card[2] == 1;
+}
+
+int states_default_n(const uint8_t *card)
+{
+    return card[0] >= 2 && card[place_of_n(card)] == 2;
+}
+
+/* Takes a field out, and its bit out of byte 0. */
+static size_t leave_out(uint8_t *card, size_t length, size_t at, int bit)
+{
+    memmove(card + at, card + at + 1, length - at - 1);
+    card[0] = (uint8_t)(card[0] - bit);
+    return length - 1;
+}
+
+size_t without_defaults(const uint8_t *card, size_t length, uint8_t *bytes)
+{
+    memcpy(bytes, card, length);
+    if (states_default_n(card))
+        length = leave_out(bytes, length, place_of_n(card), 2);
+    if (states_default_k(card))
+        length = leave_out(bytes, length, 2, 1);
+    return length;
 }
 
 /* ---- The bench ("Cards on the bench") ---- */
@@ -130,6 +191,36 @@ void bench_card(char name, struct fields *card)
         add_single(card, 2, 0);
         add_single(card, 2, 2);
         break;
+    }
+}
+
+/* ---- The longest card ---- */
+
+/* The digit that lies r frames after information stream i, both counted from 0, where four frames of a code with one
+ * information and one parity stream are taken as one. */
+static void set_after(int masks[MOST_PARITY + 1][MOST_MEMORY + 1], int i, int r)
+{
+    masks[(i + r) % 4 + 1][(i + r) / 4] = 1;
+}
+
+/* The terms of the one generator, and the check that each syndrome goes to, 0 for none: those of the program `bench`,
+ * where they came from a search. The same sums of syndromes are the checks of all four streams. */
+void longest_card(struct fields *card)
+{
+    static const uint8_t terms[] = {0, 58, 70, 87, 91, 95, 99, 101, 104, 108, 109, 113, 119, 121, 122, 123};
+    static const uint8_t check_of[] = {
+        1, 3, 8, 15, 6, 11, 12, 10, 16, 15, 13, 10, 3, 9, 11, 2, 5, 4, 11, 8, 7, 5, 16, 1, 16, 6, 14, 8, 13, 7, 14,
+        15, 4, 16, 9, 12, 16, 14, 10, 11, 2, 7, 4, 12, 14, 8, 0, 0, 13, 13, 10, 14, 15, 2, 1, 0, 0, 16, 2, 3, 0, 0,
+        7, 14, 0, 16, 6, 14, 0, 10, 3, 15, 14, 14, 5, 9, 13, 13, 7, 10, 11, 1, 7, 10, 8, 0, 14, 4, 0, 8, 13, 5, 14,
+        0, 13, 6, 12, 8, 0, 7, 0, 8, 16, 16, 9, 12, 13, 14, 10, 11, 0, 16, 0, 12, 14, 16, 0, 0, 14, 13, 0, 14, 15, 16};
+    set_sizes(card, 11, 4, 8, MOST_MEMORY);
+    for (int i = 0; i < 4; i++) {
+        card->J[i + 1] = MOST_CHECKS;
+        for (size_t t = 0; t < sizeof terms; t++)
+            set_after(card->g[i + 1], i, terms[t]);
+        for (int r = 0; r < (int)sizeof check_of; r++)
+            if (check_of[r])
+                set_after(card->check[i + 1][check_of[r]], i, r);
     }
 }
 

@@ -1,12 +1,13 @@
-/* Sets the library (libburst.a, by include/burst.h) against the reference: random and damaged cards, random
- * bursts with few, many and only wrong digits, every output size around the count. Each call's answer, every
- * output byte, the guard bytes around each lent buffer, and the card and input themselves are compared.
+/* Sets the library (libburst.a, by include/burst.h) against the reference: random and damaged cards, each also
+ * written out, random bursts with few, many and only wrong digits, every output size around the count. Each
+ * call's answer, every output byte, the guard bytes around each lent buffer, and the card and input themselves
+ * are compared.
  *
  *     driver               everything, with the seed that is always the same
  *     driver SEED          everything, with another seed
  *     driver SEED ROUND    one round again: a failure prints both numbers
  *
- * Status 0: all agreed, and every refusal that a burst can meet was met. */
+ * Status 0: all agreed, and every refusal that a burst or a card written out can meet was met. */
 #include "burst.h"
 
 #include "cards.h"
@@ -33,17 +34,28 @@ enum direction { SEND, RECEIVE };
 static struct {
     uint64_t seed;
     long round;
-    enum direction direction;
+    const char *function;
     const uint8_t *card, *input;
     size_t card_length, input_length, output_length;
 } now;
 
+struct calls {
+    long made;
+    long refused[32]; /* by the refusal's number */
+};
+
 static struct {
-    long calls, cards, cards_accepted, streams, clean, corrected, beyond, correctable;
+    struct calls bursts, writes;
+    long cards, cards_accepted, streams, clean, corrected, beyond, correctable;
     int most_checks; /* the largest J of a stream's card */
-    long refused[32];      /* calls, by the refusal's number */
     long cards_refused[32]; /* cards, by the refusal's number */
 } counts;
+
+/* The accepted cards that were written out, and those among them on which a writer is most likely to go wrong. */
+static struct {
+    long cards, k_stated, n_stated, both_stated, zero_generator, zero_check_mask, k_above_1, p_above_1;
+    size_t longest;
+} written;
 
 static struct arena card_arena, input_arena, output_arena;
 static uint8_t *expected; /* the output as the reference leaves it */
@@ -68,7 +80,7 @@ static void fail(const char *format, ...)
     vprintf(format, arguments);
     va_end(arguments);
     printf("\nagain: driver %llu %ld\n", (unsigned long long)now.seed, now.round);
-    printf("%s, room for %zu output bytes\n", now.direction == SEND ? "burst_send" : "burst_receive", now.output_length);
+    printf("%s, room for %zu output bytes\n", now.function, now.output_length);
     print_hexadecimal("card", now.card, now.card_length);
     print_hexadecimal("input", now.input, now.input_length);
     fflush(stdout);
@@ -89,7 +101,29 @@ static void fill_output(struct random *r, size_t length)
         expected[b] = (uint8_t)random_word(r);
 }
 
-static void compare(int32_t answer, int32_t reference_answer)
+/* What is lent to the library in a call. */
+struct lent {
+    const uint8_t *card, *input;
+    uint8_t *output;
+};
+
+static struct lent lend_all(struct random *r, const char *function, const uint8_t *card, size_t card_length,
+                            const uint8_t *input, size_t input_length, size_t output_length)
+{
+    struct lent lent;
+    now.function = function;
+    now.card = card, now.card_length = card_length;
+    now.input = input, now.input_length = input_length;
+    now.output_length = output_length;
+    fill_output(r, output_length);
+    lent.card = lend(&card_arena, card, card_length, below(r, PLACEMENTS));
+    lent.input = lend(&input_arena, input, input_length, below(r, PLACEMENTS));
+    lent.output = lend(&output_arena, expected, output_length, below(r, PLACEMENTS));
+    return lent;
+}
+
+/* Compares what both leave behind, counts the call, and gives its answer. */
+static int32_t compare(struct calls *calls, int32_t answer, int32_t reference_answer)
 {
     if (answer != reference_answer)
         fail("the library answers %d, the reference %d", (int)answer, (int)reference_answer);
@@ -102,41 +136,45 @@ static void compare(int32_t answer, int32_t reference_answer)
         fail("the card or bytes around it were written");
     if (!holds(&input_arena, now.input))
         fail("the input or bytes around it were written");
+    calls->made++;
+    if (answer < 0)
+        calls->refused[-answer]++;
+    return answer;
 }
 
 /* Calls both, compares everything, and gives the answer; the output is then in `expected`. */
 static int32_t call(struct random *r, enum direction direction, const uint8_t *card, size_t card_length,
                     const uint8_t *input, size_t input_length, size_t output_length)
 {
-    now.direction = direction;
-    now.card = card, now.card_length = card_length;
-    now.input = input, now.input_length = input_length;
-    now.output_length = output_length;
-    fill_output(r, output_length);
-    uint8_t *lent_card = lend(&card_arena, card, card_length, below(r, PLACEMENTS));
-    uint8_t *lent_input = lend(&input_arena, input, input_length, below(r, PLACEMENTS));
-    uint8_t *lent_output = lend(&output_arena, expected, output_length, below(r, PLACEMENTS));
     int32_t (*library)(const uint8_t *, size_t, const uint8_t *, size_t, uint8_t *, size_t) =
         direction == SEND ? burst_send : burst_receive;
     int32_t (*reference)(const uint8_t *, size_t, const uint8_t *, size_t, uint8_t *, size_t) =
         direction == SEND ? reference_burst_send : reference_burst_receive;
-    int32_t answer = library(lent_card, card_length, lent_input, input_length, lent_output, output_length);
-    compare(answer, reference(card, card_length, input, input_length, expected, output_length));
-    counts.calls++;
-    if (answer < 0)
-        counts.refused[-answer]++;
-    return answer;
+    struct lent lent = lend_all(r, direction == SEND ? "burst_send" : "burst_receive", card, card_length, input,
+                                input_length, output_length);
+    int32_t answer = library(lent.card, card_length, lent.input, input_length, lent.output, output_length);
+    return compare(&counts.bursts, answer, reference(card, card_length, input, input_length, expected, output_length));
+}
+
+/* The same with card_write. */
+static int32_t call_write(struct random *r, const uint8_t *card, size_t card_length, size_t output_length)
+{
+    struct lent lent = lend_all(r, "card_write", card, card_length, NULL, 0, output_length);
+    int32_t answer = card_write(lent.card, card_length, lent.output, output_length);
+    return compare(&counts.writes, answer, reference_card_write(card, card_length, expected, output_length));
 }
 
 /* ---- Cards ---- */
 
-/* Whether both accept the card, by an empty burst. */
+/* Whether both accept the card, by empty bursts and by writing it. */
 static int accepted(struct random *r, const uint8_t *card, size_t length)
 {
     int32_t sent = call(r, SEND, card, length, NULL, 0, MOST_MEMORY);
     int32_t received = call(r, RECEIVE, card, length, NULL, 0, 0);
-    if ((sent < 0 ? sent : 0) != received)
-        fail("burst_send says %d of the card, burst_receive %d", (int)sent, (int)received);
+    int32_t count = call_write(r, card, length, MOST_CARD_BYTES);
+    if ((sent < 0 ? sent : 0) != received || (count < 0 ? count : 0) != received)
+        fail("burst_send says %d of the card, burst_receive %d, card_write %d", (int)sent, (int)received, (int)count);
+    call_write(r, card, length, 0); /* 13, but the card's refusals come before it */
     counts.cards++;
     if (sent < 0)
         counts.cards_refused[-sent]++;
@@ -265,6 +303,75 @@ static void stream(struct random *r, const struct fields *fields, const uint8_t 
     }
 }
 
+/* ---- Cards written out ---- */
+
+static void count_written(const struct fields *fields, const uint8_t *card, size_t count)
+{
+    int k_stated = states_default_k(card), n_stated = states_default_n(card);
+    written.cards++;
+    written.k_stated += k_stated;
+    written.n_stated += n_stated;
+    written.both_stated += k_stated && n_stated;
+    written.zero_generator += has_zero_generator(fields);
+    written.zero_check_mask += has_zero_check_mask(fields);
+    written.k_above_1 += fields->k > 1;
+    written.p_above_1 += fields->p > 1;
+    if (count > written.longest)
+        written.longest = count;
+}
+
+/* An accepted card written into so much room: `bytes` come out, or 13. */
+static void write_into(struct random *r, size_t room, const uint8_t *card, size_t length, const uint8_t *bytes,
+                       size_t count)
+{
+    int32_t answer = call_write(r, card, length, room);
+    if (answer != (room < count ? -13 : (int32_t)count))
+        fail("room for %zu of %zu bytes, and the answer is %d", room, count, (int)answer);
+    if (answer > 0 && memcmp(expected, bytes, count) != 0)
+        fail("what is written is not the card without the defaults that it states");
+}
+
+/* One burst by a card and by its written form: the same answer and the same frames. */
+static void same_burst(struct random *r, enum direction direction, const struct fields *fields, const uint8_t *card,
+                       size_t length, const uint8_t *bytes, size_t count)
+{
+    uint8_t frames[120], given[120 + MOST_MEMORY];
+    size_t input = (size_t)length_around(r, fields->m), room = input + MOST_MEMORY;
+    random_frames(r, direction == SEND ? fields->k : fields->n, frames, (long)input);
+    int32_t answer = call(r, direction, card, length, frames, input, room);
+    if (answer < 0)
+        fail("a good burst is answered by %d", (int)answer);
+    memcpy(given, expected, (size_t)answer);
+    if (call(r, direction, bytes, count, frames, input, room) != answer || memcmp(given, expected, (size_t)answer) != 0)
+        fail("by the card that was written, the burst is another than by the card that was read");
+}
+
+/* The written form of a card is the same card: to the reference's reader, when it is written again, and in use. */
+static void come_back(struct random *r, const struct fields *fields, const uint8_t *card, size_t length,
+                      const uint8_t *bytes, size_t count)
+{
+    struct fields again;
+    if (reference_read_card(bytes, count, &again).refusal || memcmp(&again, fields, sizeof again) != 0)
+        fail("the written form is another card");
+    write_into(r, MOST_CARD_BYTES, bytes, count, bytes, count);
+    same_burst(r, SEND, fields, card, length, bytes, count);
+    same_burst(r, RECEIVE, fields, card, length, bytes, count);
+}
+
+/* An accepted card goes out and comes back. What must go out is known from its bytes alone, whatever the reference
+ * writes: the stated defaults cut out of them, and so the bytes themselves, if no default is stated. */
+static void write_out(struct random *r, const struct fields *fields, const uint8_t *card, size_t length)
+{
+    uint8_t bytes[MOST_CARD_BYTES];
+    size_t count = without_defaults(card, length, bytes);
+    size_t rooms[] = {1, count - 1, count, count + 1, count + (size_t)below(r, MOST_CARD_BYTES)};
+    for (size_t room = 0; room < sizeof rooms / sizeof *rooms; room++)
+        write_into(r, rooms[room], card, length, bytes, count);
+    if (count < length)
+        come_back(r, fields, card, length, bytes, count);
+    count_written(fields, card, count);
+}
+
 /* ---- Rounds ---- */
 
 /* Bytes of an accepted card, or of one near it, changed at random. */
@@ -301,7 +408,7 @@ static void random_card_round(struct random *r)
     int kind = below(r, 10);
     if (kind == 0 || kind == 1)
         spoil_card(r, &fields);
-    size_t length = write_card(&fields, one_in(r, 3), one_in(r, 3), card);
+    size_t length = card_bytes(&fields, one_in(r, 3), one_in(r, 3), card);
     if (kind == 2 || kind == 3)
         length = damage_bytes(r, card, length);
     any_frames(r, &fields, card, length); /* the card's refusals come before the burst's */
@@ -309,16 +416,19 @@ static void random_card_round(struct random *r)
         return;
     if (reference_read_card(card, length, &fields).refusal)
         fail("the reference refuses a card that it accepted");
+    write_out(r, &fields, card, length);
     stream(r, &fields, card, length);
     any_frames(r, &fields, card, length);
 }
 
-/* A card that is changed, and if it is still one, a stream by it. */
+/* A card that is changed; if it is still one, it is written out, and a stream is sent by it. */
 static void changed_card(struct random *r, const uint8_t *card, size_t length)
 {
     struct fields fields;
-    if (accepted(r, card, length) && reference_read_card(card, length, &fields).refusal == 0)
+    if (accepted(r, card, length) && reference_read_card(card, length, &fields).refusal == 0) {
+        write_out(r, &fields, card, length);
         stream(r, &fields, card, length);
+    }
 }
 
 /* Every byte of the card changed in several ways, the card cut everywhere, and extended. */
@@ -350,7 +460,7 @@ static void damaged_card_round(struct random *r, int turn)
         int k = between(r, 1, MOST_INFORMATION);
         random_card_of_shape(r, k, between(r, k + 1, MOST_STREAMS), below(r, 32), between(r, 2, 6), 3, &fields);
     }
-    size_t length = write_card(&fields, one_in(r, 2), one_in(r, 2), card);
+    size_t length = card_bytes(&fields, one_in(r, 2), one_in(r, 2), card);
     damage_everywhere(r, card, length, turn < 4);
 }
 
@@ -362,7 +472,8 @@ static void card_with_most_checks(struct random *r, struct fields *fields)
     while (fields->J[1] < MOST_CHECKS);
 }
 
-/* Bursts of every length from 0 to well beyond m, both ways, on every card of the bench and on large cards. */
+/* Bursts of every length from 0 to well beyond m, both ways, on every card of the bench and on large cards, which are
+ * written out as well. */
 static void every_length_round(struct random *r, int turn)
 {
     struct fields fields;
@@ -373,7 +484,8 @@ static void every_length_round(struct random *r, int turn)
         card_with_most_checks(r, &fields);
     else
         random_card_of_shape(r, turn - 3, turn + 1, MOST_MEMORY, MOST_CHECKS, 3, &fields);
-    size_t length = write_card(&fields, 0, 0, card);
+    size_t length = card_bytes(&fields, 0, 0, card);
+    write_out(r, &fields, card, length);
     for (int streams = 0; streams < 20; streams++)
         stream(r, &fields, card, length);
     for (long count = 0; count <= 2 * fields.m + 4; count++) {
@@ -384,25 +496,22 @@ static void every_length_round(struct random *r, int turn)
     }
 }
 
-/* A card of the most bytes that one within the limits can have: k 4, n 8, every mask standing, J 16. (Its random
- * checks are refused; cards with fewer masks are accepted in the other rounds.) */
+/* A card of the most bytes that one within the limits can have: k 4, n 8, every mask standing, J 16. And faults in it,
+ * most of them far behind its first byte. */
 static void longest_card_round(struct random *r)
 {
     struct fields fields;
-    uint8_t card[MOST_CARD_BYTES];
-    random_card_of_shape(r, 4, 8, MOST_MEMORY, 1, 1, &fields);
-    for (int i = 1; i <= 4; i++) {
-        fields.J[i] = MOST_CHECKS;
-        for (int j = 1; j <= 4; j++) {
-            fields.g[i][j][between(r, 0, MOST_MEMORY)] = 1;
-            for (int q = 1; q <= MOST_CHECKS; q++)
-                fields.check[i][q][j][between(r, 0, MOST_MEMORY)] = 1;
-        }
+    uint8_t card[MOST_CARD_BYTES], changed[MOST_CARD_BYTES + 1];
+    longest_card(&fields);
+    size_t length = card_bytes(&fields, 0, 0, card);
+    if (length != MOST_CARD_BYTES || !accepted(r, card, length))
+        fail("the longest card has %zu bytes, or is refused", length);
+    write_out(r, &fields, card, length);
+    stream(r, &fields, card, length);
+    for (int faults = 0; faults < 100; faults++) {
+        memcpy(changed, card, length);
+        changed_card(r, changed, damage_bytes(r, changed, length));
     }
-    size_t length = write_card(&fields, 1, 1, card);
-    if (length != MOST_CARD_BYTES)
-        fail("the longest card has %zu bytes", length);
-    accepted(r, card, length);
 }
 
 /* Bursts around 1,048,576 frames: 15 by length, before 13 and 11. */
@@ -411,7 +520,7 @@ static void limit_round(struct random *r, char name)
     struct fields fields;
     uint8_t card[MOST_CARD_BYTES];
     bench_card(name, &fields);
-    size_t length = write_card(&fields, 0, 0, card);
+    size_t length = card_bytes(&fields, 0, 0, card);
     long most[] = {MOST_FRAMES - fields.m, MOST_FRAMES}; /* input frames of a sent, of a received burst */
     uint8_t *frames = malloc(MOST_ROOM);
     for (enum direction direction = SEND; direction <= RECEIVE; direction++) {
@@ -435,7 +544,7 @@ static void expect(struct random *r, enum direction direction, const struct fiel
                    size_t input_length, int32_t answer, const uint8_t *output)
 {
     uint8_t card[MOST_CARD_BYTES];
-    size_t length = write_card(fields, 0, 0, card);
+    size_t length = card_bytes(fields, 0, 0, card);
     int32_t given = call(r, direction, card, length, input, input_length, 8);
     if (given != answer || (answer > 0 && memcmp(expected, output, (size_t)answer) != 0))
         fail("the bench's case answers %d or gives other frames", (int)given);
@@ -444,7 +553,7 @@ static void expect(struct random *r, enum direction direction, const struct fiel
 static void expect_card(struct random *r, const struct fields *fields, int refusal)
 {
     uint8_t card[MOST_CARD_BYTES];
-    size_t length = write_card(fields, 0, 0, card);
+    size_t length = card_bytes(fields, 0, 0, card);
     int32_t given = call(r, RECEIVE, card, length, NULL, 0, 0);
     if (given != -refusal)
         fail("the bench's card is answered by %d", (int)given);
@@ -472,9 +581,11 @@ static void bench_bursts(struct random *r)
     expect(r, RECEIVE, &P, NULL, 0, 0, NULL);
 }
 
+/* Card P as the document prints it, and a zero byte. */
+static const uint8_t bytes_of_P[21] = {0, 7, 1, 1, 0, 3, 0, 0, 0, 2, 1, 1, 0, 0, 0, 1, 2, 0, 0, 0, 0};
+
 static void bench_cards(struct random *r)
 {
-    static const uint8_t bytes_of_P[21] = {0, 7, 1, 1, 0, 3, 0, 0, 0, 2, 1, 1, 0, 0, 0, 1, 2, 0, 0, 0, 0};
     struct fields fields;
     expect_bytes(r, bytes_of_P, 20, 0, 0);
     expect_bytes(r, bytes_of_P, 19, 1, 19);
@@ -504,6 +615,33 @@ static void bench_cards(struct random *r)
     expect_card(r, &fields, 7);
 }
 
+/* P with k stated as 1, with n stated as 2, and with both: each is written as P. */
+static void written_as_P(struct random *r)
+{
+    static const uint8_t k_stated[] = {1, 7, 1, 1, 1, 0, 3, 0, 0, 0, 2, 1, 1, 0, 0, 0, 1, 2, 0, 0, 0};
+    static const uint8_t n_stated[] = {2, 7, 2, 1, 1, 0, 3, 0, 0, 0, 2, 1, 1, 0, 0, 0, 1, 2, 0, 0, 0};
+    static const uint8_t both_stated[] = {3, 7, 1, 2, 1, 1, 0, 3, 0, 0, 0, 2, 1, 1, 0, 0, 0, 1, 2, 0, 0, 0};
+    write_into(r, 20, bytes_of_P, 20, bytes_of_P, 20);
+    write_into(r, 20, k_stated, sizeof k_stated, bytes_of_P, 20);
+    write_into(r, 20, n_stated, sizeof n_stated, bytes_of_P, 20);
+    write_into(r, 20, both_stated, sizeof both_stated, bytes_of_P, 20);
+}
+
+/* The bench's cards, their defaults stated or not, written into every room from none to more than enough. */
+static void bench_written(struct random *r)
+{
+    struct fields fields;
+    uint8_t card[MOST_CARD_BYTES], bytes[MOST_CARD_BYTES];
+    for (int turn = 0; turn < 16; turn++) {
+        bench_card("PQRT"[turn % 4], &fields);
+        size_t length = card_bytes(&fields, turn / 4 % 2, turn / 8, card);
+        size_t count = card_bytes(&fields, 0, 0, bytes);
+        write_out(r, &fields, card, length);
+        for (size_t room = 0; room <= length + 3; room++)
+            write_into(r, room, card, length, bytes, count);
+    }
+}
+
 /* With length 0 a pointer may be null. */
 static void null_pointers(void)
 {
@@ -519,12 +657,16 @@ static void null_pointers(void)
     if (burst_receive(card_of_m_0, sizeof card_of_m_0, &frame, 1, NULL, 0) != -13 ||
         burst_receive(card_of_m_0, sizeof card_of_m_0, &frame, 1, &out, 1) != 1 || out != 1)
         fail("one frame at m = 0 does not come out");
+    if (card_write(NULL, 0, NULL, 0) != -1 || card_write(card_of_m_0, sizeof card_of_m_0, NULL, 0) != -13)
+        fail("no card at all is not refused with 1 by card_write, or no room with 13");
 }
 
 static void bench_round(struct random *r)
 {
     bench_bursts(r);
     bench_cards(r);
+    written_as_P(r);
+    bench_written(r);
     null_pointers();
 }
 
@@ -555,29 +697,69 @@ static int run_round(long round)
     return 0;
 }
 
+static void print_refused(const char *what, const struct calls *calls)
+{
+    printf("%s refused:", what);
+    for (int number = 1; number < 32; number++)
+        if (calls->refused[number])
+            printf(" %d: %ld", number, calls->refused[number]);
+    printf("\n");
+}
+
+static void print_written(void)
+{
+    printf("%ld cards written out, the longest of %zu bytes: %ld stated k as 1, %ld n as 2, %ld both\n", written.cards,
+           written.longest, written.k_stated, written.n_stated, written.both_stated);
+    printf("of these %ld had a zero generator, %ld a zero mask in a check, %ld k above 1, %ld p above 1\n",
+           written.zero_generator, written.zero_check_mask, written.k_above_1, written.p_above_1);
+}
+
 static void print_counts(void)
 {
-    printf("%ld calls; %ld cards, %ld of them accepted; refused:", counts.calls, counts.cards, counts.cards_accepted);
+    printf("%ld bursts, %ld calls of card_write; %ld cards, %ld of them accepted; refused:", counts.bursts.made,
+           counts.writes.made, counts.cards, counts.cards_accepted);
     for (int number = 1; number <= 10; number++)
         printf(" %d: %ld", number, counts.cards_refused[number]);
-    printf("\ncalls refused:");
-    for (int number = 1; number < 32; number++)
-        if (counts.refused[number])
-            printf(" %d: %ld", number, counts.refused[number]);
-    printf("\n%ld streams: %ld without a wrong digit, %ld corrected, %ld beyond (%ld with wrong digits had to come out as sent)\n",
+    printf("\n");
+    print_refused("bursts", &counts.bursts);
+    print_refused("card_write", &counts.writes);
+    print_written();
+    printf("%ld streams: %ld without a wrong digit, %ld corrected, %ld beyond (%ld with wrong digits had to come out as sent)\n",
            counts.streams, counts.clean, counts.corrected, counts.beyond, counts.correctable);
+}
+
+/* Whether a burst can meet the refusal, and whether card_write can. The others are for sessions. */
+static int met_by_bursts(int number)
+{
+    return (number >= 1 && number <= 11) || number == 13 || number == 15;
+}
+
+static int met_by_card_write(int number)
+{
+    return (number >= 1 && number <= 10) || number == 13;
+}
+
+/* Few cards state a default, and fewer state both: a change to the card maker must not lose them. */
+static int wrote_enough(void)
+{
+    return written.cards >= 5000 && written.longest == MOST_CARD_BYTES && written.k_stated >= 500 &&
+           written.n_stated >= 100 && written.both_stated >= 50 && written.zero_generator >= 500 &&
+           written.zero_check_mask >= 500 && written.k_above_1 >= 500 && written.p_above_1 >= 500;
 }
 
 /* A run that did not try everything is no proof of agreement. */
 static int tried_enough(void)
 {
     int enough = 1;
-    for (int number = 1; number <= 15; number++) {
-        int by_session = number == 12 || number == 14;
-        if (!by_session && counts.refused[number] == 0) {
+    for (int number = 1; number <= 15; number++)
+        if ((met_by_bursts(number) && counts.bursts.refused[number] == 0) ||
+            (met_by_card_write(number) && counts.writes.refused[number] == 0)) {
             printf("FAILED: refusal %d never occurred\n", number);
             enough = 0;
         }
+    if (!wrote_enough()) {
+        printf("FAILED: too few cards written, or too few of a kind\n");
+        enough = 0;
     }
     if (counts.most_checks < MOST_CHECKS || counts.cards < 20000 || counts.streams < 5000 || counts.corrected < 500 || counts.beyond < 500) {
         printf("FAILED: too few cards, streams or checks\n");

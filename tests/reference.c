@@ -177,6 +177,96 @@ struct card_answer reference_read_card(const uint8_t *bytes, size_t length, stru
     return r.fault;
 }
 
+/* ---- The written form of a card (document 02, R-1) ---- */
+
+/* Writing runs front to back too. No accepted card needs more room than this. */
+struct writer {
+    uint8_t bytes[MOST_CARD_BYTES];
+    size_t count;
+};
+
+/* A little-endian integer of `size` bytes. */
+static void write_integer(struct writer *w, size_t size, uint32_t value)
+{
+    for (size_t b = 0; b < size; b++) {
+        w->bytes[w->count++] = (uint8_t)(value % 256);
+        value /= 256;
+    }
+}
+
+/* The number that has these digits, the lowest first. */
+static uint32_t number_of(const int digits[], int count)
+{
+    uint32_t number = 0;
+    for (int a = count - 1; a >= 0; a--)
+        number = 2 * number + (uint32_t)digits[a];
+    return number;
+}
+
+/* A map of `size` bytes over the masks, then those that stand: a mask that is zero does not. */
+static void write_masks(struct writer *w, size_t size, const uint32_t masks[], int places)
+{
+    int stands[16];
+    for (int s = 0; s < places; s++)
+        stands[s] = masks[s] != 0;
+    write_integer(w, size, number_of(stands, places));
+    for (int s = 0; s < places; s++)
+        if (stands[s])
+            write_integer(w, 4, masks[s]);
+}
+
+/* Byte 0, the card's number, k, n, m: "a field equal to its default is left out". */
+static void write_sizes(struct writer *w, const struct fields *card)
+{
+    int stands[2] = {card->k != 1, card->n != 2};
+    write_integer(w, 1, number_of(stands, 2));
+    write_integer(w, 1, (uint32_t)card->number);
+    if (stands[0])
+        write_integer(w, 1, (uint32_t)card->k);
+    if (stands[1])
+        write_integer(w, 1, (uint32_t)card->n);
+    write_integer(w, 1, (uint32_t)card->m);
+}
+
+static void write_generators(struct writer *w, const struct fields *card)
+{
+    uint32_t masks[16] = {0};
+    int places = 0;
+    for (int i = 1; i <= card->k; i++)
+        for (int j = 1; j <= card->p; j++)
+            masks[places++] = number_of(card->g[i][j], MOST_MEMORY + 1);
+    write_masks(w, 2, masks, places);
+}
+
+/* J and the checks of information stream i. */
+static void write_checks(struct writer *w, const struct fields *card, int i)
+{
+    write_integer(w, 1, (uint32_t)card->J[i]);
+    for (int q = 1; q <= card->J[i]; q++) {
+        uint32_t masks[MOST_PARITY] = {0};
+        for (int j = 1; j <= card->p; j++)
+            masks[j - 1] = number_of(card->check[i][q][j], MOST_MEMORY + 1);
+        write_masks(w, 1, masks, card->p);
+    }
+}
+
+int32_t reference_card_write(const uint8_t *card_bytes, size_t card_length, uint8_t *output, size_t output_length)
+{
+    struct fields card;
+    struct writer w = {.count = 0};
+    int refusal = reference_read_card(card_bytes, card_length, &card).refusal;
+    if (refusal)
+        return -refusal;
+    write_sizes(&w, &card);
+    write_generators(&w, &card);
+    for (int i = 1; i <= card.k; i++)
+        write_checks(&w, &card, i);
+    if (output_length < w.count)
+        return -13;
+    memcpy(output, w.bytes, w.count);
+    return (int32_t)w.count;
+}
+
 /* ---- The code and its checks ("The code", "Checks") ---- */
 
 /* An information error (b, i) is in the syndrome s(a, j) if g(i, j, a - b) is 1; the check is the sum of its

@@ -1,6 +1,7 @@
 /* The second opinion: link cards, sending and threshold receiving, written from document 01
  * (the project's scope), before its author looked at the library's code. Where the document leaves a point
- * open, the project's DESIGN.md had been read, so on those points it is not a second reading.
+ * open, the project's DESIGN.md had been read, so on those points it is not a second reading. The written
+ * form of a card (document 02, R-1) was added later, by an author who had seen the library's.
  *
  * It is made to be read, not to be fast. A digit is an int that is 0 or 1, a sum of digits is a
  * sum with one `% 2` at its end, and a stream keeps every frame from time 0 on: no masks, no
@@ -49,6 +50,9 @@ struct touched {
 };
 
 struct card_answer reference_read_card(const uint8_t *bytes, size_t length, struct fields *card);
+
+/* The card that the bytes state in its written form, called as the library's card_write is. */
+int32_t reference_card_write(const uint8_t *card, size_t card_length, uint8_t *output, size_t output_length);
 
 struct touched reference_touched(const struct fields *card, int i, int q);
 

@@ -14,7 +14,7 @@ enum { STACK = 131072, PAINT = 0x5a, FRAMES = 64 };
 
 static uint8_t card[MOST_CARD_BYTES];
 static size_t card_length;
-static uint8_t frames[FRAMES], output[FRAMES + MOST_MEMORY];
+static uint8_t frames[FRAMES], output[FRAMES + MOST_MEMORY], written[MOST_CARD_BYTES];
 static int32_t answer;
 
 /* A call is made on a stack of its own, painted beforehand: what is no longer paint was used. */
@@ -33,6 +33,11 @@ static void call_send(void)
 static void call_receive(void)
 {
     answer = burst_receive(card, card_length, frames, FRAMES, output, sizeof output);
+}
+
+static void call_write(void)
+{
+    answer = card_write(card, card_length, written, sizeof written);
 }
 
 static long painted_over_by(void (*function)(void))
@@ -60,30 +65,39 @@ static void random_bytes(struct random *r)
 {
     struct fields fields;
     random_card(r, &fields);
-    card_length = write_card(&fields, 0, 0, card);
+    card_length = card_bytes(&fields, 0, 0, card);
     if (one_in(r, 4))
         card_length = (size_t)below(r, (int)card_length);
     for (int u = 0; u < FRAMES; u++)
         frames[u] = (uint8_t)below(r, 1 << fields.k);
 }
 
+/* The larger of what was measured before and what the call takes now. */
+static long most_of(long most, void (*function)(void))
+{
+    long now = stack_of(function);
+    return now > most ? now : most;
+}
+
 int main(void)
 {
     struct random r = {1};
-    long send = 0, receive = 0;
+    long send = 0, receive = 0, write = 0;
     for (int turn = 0; turn < 20; turn++) { /* the loader binds memcpy and memset at their first call, on our stack */
         random_bytes(&r);
         call_send();
         call_receive();
+        call_write();
     }
     for (int turn = 0; turn < 300; turn++) {
         random_bytes(&r);
-        long sending = stack_of(call_send), receiving = stack_of(call_receive);
-        send = sending > send ? sending : send;
-        receive = receiving > receive ? receiving : receive;
+        send = most_of(send, call_send);
+        receive = most_of(receive, call_receive);
+        write = most_of(write, call_write);
     }
-    printf("stack: burst_send %ld bytes, burst_receive %ld, burst.h says %d\n", send, receive, BURST_STACK_BYTES);
-    if (send > BURST_STACK_BYTES || receive > BURST_STACK_BYTES) {
+    printf("stack: burst_send %ld bytes, burst_receive %ld, card_write %ld, burst.h says %d\n", send, receive, write,
+           BURST_STACK_BYTES);
+    if (send > BURST_STACK_BYTES || receive > BURST_STACK_BYTES || write > BURST_STACK_BYTES) {
         printf("FAILED: more stack than burst.h says\n");
         return 1;
     }

@@ -152,7 +152,7 @@ static void add_card(struct random *r, struct fields *card)
     random_card(r, card);
     if (one_in(r, 5))
         spoil_card(r, card);
-    size_t size = write_card(card, one_in(r, 3), one_in(r, 3), bytes);
+    size_t size = card_bytes(card, one_in(r, 3), one_in(r, 3), bytes);
     if (one_in(r, 5))
         bytes[below(r, (int)size)] = (uint8_t)random_word(r);
     if (one_in(r, 12))

@@ -1,4 +1,4 @@
-// The answer of a burst: the count of output frames, or minus the refusal.
+// The answer of a call: the count of what was written, frames or bytes, or minus the refusal.
 ghost use mathlib.Core.Path.{_≡_};
 ghost use Prim.Native.Nat.{_≤_};
 ghost use lib.IntN.{pos, negℤ};
@@ -12,7 +12,7 @@ pub(crate) fn refused(refusal: Refusal) -> i32
     -(card::refusal_number(refusal) as i32)
 }
 
-pub(crate) fn frames(count: usize) -> i32
+pub(crate) fn counted(count: usize) -> i32
     requires { ⌜ count ≤ mostFrames ⌝ }
     ensures { λ r. ⌜ r ≡ pos count ⌝ }
 {

@@ -10,7 +10,7 @@ ghost use Rattle.outcomes.specs.Receiving.{receiveUnder, receiveOf};
 ghost use Rattle.outcomes.specs.Claims.{ComesOutAsSent};
 ghost use Rattle.burst.specs.Registers.{registers, generatorSums};
 ghost use Rattle.burst.specs.Held.{tables, Carried, HandedOut, ReceivedBy};
-use crate::answer::frames;
+use crate::answer::counted;
 use crate::answer::refused;
 use crate::registers::correct;
 use crate::registers::corrected;
@@ -146,7 +146,7 @@ fn receive_under(card: Card, input: &[u8], output: &mut [u8]) -> i32
         input,
         output,
     );
-    frames(count)
+    counted(count)
 }
 
 // Receives a whole burst: the count of frames handed out, or minus the refusal. Only that many bytes of the output are written, and a refused

@@ -9,7 +9,7 @@ ghost use Rattle.code.specs.declared.Card.{Card};
 ghost use Rattle.outcomes.specs.Outcome.{outcome};
 ghost use Rattle.burst.specs.Names.{Names};
 ghost use Rattle.outcomes.specs.Sending.{sendUnder, sendOf};
-use crate::answer::frames;
+use crate::answer::counted;
 use crate::answer::refused;
 use card::Refusal;
 use card::Verdict;
@@ -68,7 +68,7 @@ fn send_under(card: Card, input: &[u8], output: &mut [u8]) -> i32
     }
     let generators = card.generators;
     send_frames(&generators, card.k, card.p, m, input, output);
-    frames(count)
+    counted(count)
 }
 
 // Sends a whole burst: the count of output frames, information and tail, or minus the refusal. Only that many bytes of the output are written,

@@ -14,11 +14,11 @@ use Rattle.card.specs.Fields.{Head, Stream, Fields}
 use Rattle.card.specs.Layout.{bytes4, layoutMasks, optional, layoutHead, allRows, layoutRows, layoutChecks, layoutStreams, layout, AllMasksIn, AllStreamsIn, InLimits}
 use Rattle.card.proofs.LayoutLaws.{rows-long}
 
-mask-length : (v : ℕ) → length (cond (eqb v 0) [] (bytes4 v)) ≤ 4
+pub mask-length : (v : ℕ) → length (cond (eqb v 0) [] (bytes4 v)) ≤ 4
 unfolding bytes4
 mask-length v = ⊎-elim (λ q. rw (eq-eqb v 0 q) (omega arith)) (λ q. rw (ne-eqb v 0 q) (omega arith)) (same-or-not v 0)
 
-masks-length : (vs : List ℕ) → length (layoutMasks vs) ≤ 4 * length vs
+pub masks-length : (vs : List ℕ) → length (layoutMasks vs) ≤ 4 * length vs
 unfolding layoutMasks
 masks-length [] = omega arith
 masks-length (v ∷ vs) =
@@ -49,11 +49,11 @@ streams-length p m (s ∷ streams) a =
     let c : length (s .checks) * (1 + 4 * p) ≤ 16 * (1 + 4 * p) = mul-le-mul-right (1 + 4 * p) (omega arith) in
     omega arith
 
-optional-length : (d v : ℕ) → length (optional d v) ≤ 1
+pub optional-length : (d v : ℕ) → length (optional d v) ≤ 1
 unfolding optional
 optional-length d v = ⊎-elim (λ q. rw (eq-eqb d 1 q) (omega arith)) (λ q. rw (ne-eqb d 1 q) (omega arith)) (same-or-not d 1)
 
-head-length : (h : Head) → length (layoutHead h) ≤ 5
+pub head-length : (h : Head) → length (layoutHead h) ≤ 5
 unfolding layoutHead
 head-length h =
     let a = length-append (optional (h .kStands) (h .k)) (optional (h .nStands) (h .n) ++ (h .m ∷ [])) in
@@ -62,7 +62,7 @@ head-length h =
     let d = optional-length (h .nStands) (h .n) in
     omega arith
 
-few-generators : (k p : ℕ) → k ≤ 4 → k + p ≤ 8 → k * p ≤ 16
+pub few-generators : (k p : ℕ) → k ≤ 4 → k + p ≤ 8 → k * p ≤ 16
 few-generators zero p h l = omega arith
 few-generators (suc zero) p h l = omega arith
 few-generators (suc (suc zero)) p h l = omega arith

@@ -83,7 +83,7 @@ orthogonal-P =
 orthogonal : (i : ℕ) → i < 1 → Orthogonal (cardOf fieldsP) i
 orthogonal i l = let e : 0 ≡ i = omega arith in subst (λ (i : ℕ). Orthogonal (cardOf fieldsP) i) e orthogonal-P
 
-acceptable-P : Acceptable cardP fieldsP
+pub acceptable-P : Acceptable cardP fieldsP
 unfolding bytes4 stands mapOf layoutMasks optional layoutHead allRows layoutRows layoutChecks layoutStreams layout
 acceptable-P = record { limits = limits-P; orthogonal = orthogonal; bytes-are = refl }
 

@@ -3,3 +3,4 @@ pub mod ReceiverClauses
 pub mod SenderClauses
 pub mod BurstClauses
 pub mod ListingClauses
+pub mod WriterClauses

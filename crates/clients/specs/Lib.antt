@@ -1,3 +1,4 @@
 pub mod Cards
 pub mod Closed
+pub mod Forms
 pub mod Listed

@@ -9,6 +9,11 @@ use card::CardRead;
 pub(crate) const P: [u8; 20] =
     *b"\x00\x07\x01\x01\x00\x03\x00\x00\x00\x02\x01\x01\x00\x00\x00\x01\x02\x00\x00\x00";
 
+// Card T.
+pub(crate) const T: [u8; 37] = *b"\x03\x0a\x02\x03\x02\x03\x00\x03\x00\x00\x00\x05\x00\x00\x00\
+       \x02\x01\x01\x00\x00\x00\x01\x02\x00\x00\x00\
+       \x02\x01\x01\x00\x00\x00\x01\x04\x00\x00\x00";
+
 // P is within the limits and its checks are orthogonal, so it cannot be turned down: `all-these`. The card is what its fields state: `only-these`.
 pub fn p_is_accepted() -> CardRead
     ensures { λ r. ⌜ (outcomeOf (r .verdict) ≡ accepted) × (r .card ≡ Bench.P) ⌝ }

@@ -5,3 +5,4 @@ pub mod cards;
 pub mod edges;
 pub mod listings;
 pub mod sessions;
+pub mod written;

@@ -7,6 +7,7 @@ ghost use Rattle.encoder.specs.Example.{SendsP};
 ghost use Rattle.encoder.specs.Outcome.{published, frame};
 ghost use Rattle.clients.specs.Closed.{ReceivesNothing, SendsNothing};
 use crate::cards::P;
+use crate::cards::T;
 use decoder::Reading;
 
 // A receiver of P: the third term, the rule, the answers and the link figure, for lists of calls.
@@ -20,11 +21,7 @@ pub fn p_receives() -> decoder::Opened
 pub fn t_receives() -> decoder::Opened
     ensures { λ r. ⌜ ReceivesT (r .session) ⌝ }
 {
-    decoder::open(
-        b"\x03\x0a\x02\x03\x02\x03\x00\x03\x00\x00\x00\x05\x00\x00\x00\
-          \x02\x01\x01\x00\x00\x00\x01\x02\x00\x00\x00\
-          \x02\x01\x01\x00\x00\x00\x01\x04\x00\x00\x00",
-    )
+    decoder::open(&T)
 }
 
 // A sender of P: the code's frames, for lists of calls.

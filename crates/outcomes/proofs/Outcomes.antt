@@ -15,7 +15,7 @@ use Rattle.code.specs.declared.Card.{Card}
 use Rattle.card.specs.declared.CardRead.{CardRead}
 use Rattle.code.proofs.Sent.{sent-length}
 use Rattle.outcomes.specs.Outcome.{BurstOutcome, outcome, refusedOf, givenOf, underCard}
-use Rattle.outcomes.specs.Sending.{sendUnder, sendOf}
+use Rattle.outcomes.specs.Sending.{sendUnder}
 
 pub refused-is : {answer : ℤ} (n : ℕ) (output : List ℕ) → answer ≡ negℤ (pos n) → outcome answer output ≡ refusedOf n output
 unfolding refusedOf
@@ -46,15 +46,18 @@ module _ (c : Card) (input output : List ℕ) where
       unfolding sendUnder
       under-sent b = rw (sent-length c input, le-ltb mostFrames (length input + c .m) r, le-ltb (length output) (length input + c .m) o, b)
 
--- with the card's bytes
-module _ (bytes : List ℕ) (read : CardRead) (promise : CardPromise bytes read) (input output : List ℕ) where
-  pub sent-under : {burst : BurstOutcome} → outcomeOf (read .verdict) ≡ accepted → burst ≡ sendUnder (read .card) input output → burst ≡ sendOf bytes input output
-  unfolding sendOf underCard
-  sent-under e q =
-      q ∙ ap (λ (o : Outcome). underCard o (sendUnder (read .card) input output) output) (sym e)
-      ∙ ap (λ (r : CardOutcome). underCard (r .outcome) (sendUnder (r .card) input output) output) (promise .is-read)
+-- with the card's bytes, whatever the call comes to under a card
+module _ (bytes : List ℕ) (read : CardRead) (promise : CardPromise bytes read) (under : Card → BurstOutcome) (output : List ℕ) where
+  pub by-card : {burst : BurstOutcome} → outcomeOf (read .verdict) ≡ accepted → burst ≡ under (read .card)
+      → burst ≡ underCard (readCard bytes .outcome) (under (readCard bytes .card)) output
+  unfolding underCard
+  by-card e q =
+      q ∙ ap (λ (o : Outcome). underCard o (under (read .card)) output) (sym e)
+      ∙ ap (λ (r : CardOutcome). underCard (r .outcome) (under (r .card)) output) (promise .is-read)
 
-  pub refused-by-card : {answer : ℤ} {n at : ℕ} → outcomeOf (read .verdict) ≡ refused n at → answer ≡ negℤ (pos n) → outcome answer output ≡ sendOf bytes input output
-  unfolding sendOf underCard
+  pub refused-by-card : {answer : ℤ} {n at : ℕ} → outcomeOf (read .verdict) ≡ refused n at → answer ≡ negℤ (pos n)
+      → outcome answer output ≡ underCard (readCard bytes .outcome) (under (readCard bytes .card)) output
+  unfolding underCard
   refused-by-card {n = n} e q =
-      refused-is n output q ∙ ap (λ (o : Outcome). underCard o (sendUnder (readCard bytes .card) input output) output) (sym e ∙ ap (λ (r : CardOutcome). r .outcome) (promise .is-read))
+      refused-is n output q
+      ∙ ap (λ (o : Outcome). underCard o (under (readCard bytes .card)) output) (sym e ∙ ap (λ (r : CardOutcome). r .outcome) (promise .is-read))

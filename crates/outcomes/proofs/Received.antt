@@ -1,17 +1,17 @@
 -- What receiving a burst comes to under each condition, and that a correctable burst comes out as sent.
 use Prim.Native.Nat.{ℕ, _+_, _-_, _≤_, _<_}
-use mathlib.Core.Path.{_≡_, refl, sym, ap, _∙_, subst}
+use mathlib.Core.Path.{_≡_, refl, ap, _∙_, subst}
 use mathlib.Core.Bool.{true, false}
 use mathlib.Core.List.{List}
 use native.Mathlib.Omega.{arith}
 use lib.ListN.{length, drop, take}
 use lib.Seq.{take-at}
-use lib.IntN.{ℤ, pos, negℤ}
+use lib.IntN.{ℤ}
 use borrow.Author.Tests.{lt-ltb, le-ltb}
 use Rattle.bits.specs.Digits.{anyBeyond}
 use Rattle.code.specs.Code.{mostFrames}
 use Rattle.code.specs.Guarantees.{Guarantees}
-use Rattle.card.specs.Outcome.{Outcome, accepted, refused, outcomeOf, CardOutcome}
+use Rattle.card.specs.Outcome.{Outcome, accepted, CardOutcome}
 use Rattle.card.specs.Promise.{CardPromise}
 use Rattle.card.specs.Reading.{readCard}
 use Rattle.code.specs.declared.Card.{Card}
@@ -22,7 +22,6 @@ use Rattle.majority.proofs.Theorem.{decoded-as-sent}
 use Rattle.outcomes.specs.Outcome.{BurstOutcome, outcome, refusedOf, givenOf, underCard}
 use Rattle.outcomes.specs.Receiving.{receiveUnder, receiveOf}
 use Rattle.outcomes.specs.Claims.{Admitted, CameOut, ComesOutAsSent}
-use Rattle.outcomes.proofs.Outcomes.{refused-is}
 
 module _ (c : Card) (input output : List ℕ) where
   pub receive-full : mostFrames < length input → receiveUnder c input output ≡ refusedOf 15 output
@@ -44,25 +43,11 @@ module _ (c : Card) (input output : List ℕ) where
       receive-given b = rw (le-ltb mostFrames (length input) r, decoded-length c input, le-ltb (length output) (length input - c .m) o, b)
 
 -- ---- with the card's bytes
-module _ (bytes : List ℕ) (read : CardRead) (promise : CardPromise bytes read) (input output : List ℕ) where
-  pub received-under : {burst : BurstOutcome} → outcomeOf (read .verdict) ≡ accepted → burst ≡ receiveUnder (read .card) input output
-      → burst ≡ receiveOf bytes input output
-  unfolding receiveOf underCard
-  received-under e q =
-      q ∙ ap (λ (o : Outcome). underCard o (receiveUnder (read .card) input output) output) (sym e)
-      ∙ ap (λ (r : CardOutcome). underCard (r .outcome) (receiveUnder (r .card) input output) output) (promise .is-read)
 
-  pub received-refused : {answer : ℤ} {n at : ℕ} → outcomeOf (read .verdict) ≡ refused n at → answer ≡ negℤ (pos n)
-      → outcome answer output ≡ receiveOf bytes input output
-  unfolding receiveOf underCard
-  received-refused {n = n} e q =
-      refused-is n output q
-      ∙ ap (λ (o : Outcome). underCard o (receiveUnder (readCard bytes .card) input output) output) (sym e ∙ ap (λ (r : CardOutcome). r .outcome) (promise .is-read))
-
-  -- what an accepted card guarantees, of the card by definition
-  guaranteed : readCard bytes .outcome ≡ accepted → Guarantees (readCard bytes .card)
-  guaranteed e =
-      subst Guarantees (ap (λ (r : CardOutcome). r .card) (promise .is-read)) (promise .guaranteed (ap (λ (r : CardOutcome). r .outcome) (promise .is-read) ∙ e))
+-- what an accepted card guarantees, of the card by definition
+guaranteed : (bytes : List ℕ) (read : CardRead) → CardPromise bytes read → readCard bytes .outcome ≡ accepted → Guarantees (readCard bytes .card)
+guaranteed bytes read promise e =
+    subst Guarantees (ap (λ (r : CardOutcome). r .card) (promise .is-read)) (promise .guaranteed (ap (λ (r : CardOutcome). r .outcome) (promise .is-read) ∙ e))
 
 -- a burst that meets no refusal hands out the rule's frames
 admitted-given : (card input output : List ℕ) → Admitted card input output → receiveOf card input output ≡ givenOf (decoded (readCard card .card) input) output
@@ -84,7 +69,7 @@ pub comes-out-as-sent : (bytes : List ℕ) (read : CardRead) → CardPromise byt
     → outcome answer after ≡ receiveOf bytes input output → ComesOutAsSent bytes input output answer after
 comes-out-as-sent bytes read promise input output e info A S =
     let c = readCard bytes .card in
-    let G = guaranteed bytes read promise input output (A .card-accepted) in
+    let G = guaranteed bytes read promise (A .card-accepted) in
     given-came-out info output
     (e ∙ admitted-given bytes input output A
     ∙ ap (λ (l : List ℕ). givenOf l output) (decoded-as-sent c G info input (S .information) (omega arith) (S .correctable)))

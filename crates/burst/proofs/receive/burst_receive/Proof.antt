@@ -5,7 +5,9 @@ use borrow.Author.Needs.{needs}
 use Rattle.card.specs.Outcome.{outcomeOf}
 use Rattle.outcomes.specs.Outcome.{outcome}
 use Rattle.burst.proofs.Answers.{answer-is}
-use Rattle.outcomes.proofs.Received.{received-under, received-refused, received}
+use Rattle.outcomes.specs.Receiving.{receiveUnder, receiveOf}
+use Rattle.outcomes.proofs.Outcomes.{by-card, refused-by-card}
+use Rattle.outcomes.proofs.Received.{received}
 use Rattle.burst.proofs.receive.burst_receive.Statement.{statement}
 use Rattle.burst.proofs.receive.burst_receive.Tie as tie
 
@@ -28,20 +30,22 @@ same-length : tie.Need-same-length
 same-length c = search needs
 
 returns : tie.Need-returns
+unfolding receiveOf
 returns c =
     let a = c .before .before .before .before .before .before .before .before .before .before .args in
     let read = c .before .before .before .before .before .before .read-card in
     let burst = c .before .before .receive-under in
     received (a .card .now) (read .result) (read .ensures) (a .input .now) (a .output .now)
-    (received-under (a .card .now) (read .result) (read .ensures) (a .input .now) (a .output .now) (ap outcomeOf (c .before .before .before .before .enum-told .given .1))
+    (by-card (a .card .now) (read .result) (read .ensures) (λ card. receiveUnder card (a .input .now) (a .output .now)) (a .output .now) (ap outcomeOf (c .before .before .before .before .enum-told .given .1))
     (ap (λ (z : ℤ). outcome z (burst .last .1 .1 .0)) (answer-is (burst .result) (burst .ok) refl) ∙ burst .ensures))
 
 returns-2 : tie.Need-returns-2
+unfolding receiveOf
 returns-2 c =
     let a = c .before .before .before .before .before .before .before .before .args in
     let read = c .before .before .before .before .read-card in
     received (a .card .now) (read .result) (read .ensures) (a .input .now) (a .output .now)
-    (received-refused (a .card .now) (read .result) (read .ensures) (a .input .now) (a .output .now) (ap outcomeOf (c .before .before .verdict .given .1))
+    (refused-by-card (a .card .now) (read .result) (read .ensures) (λ card. receiveUnder card (a .input .now) (a .output .now)) (a .output .now) (ap outcomeOf (c .before .before .verdict .given .1))
     (answer-is (c .refused .result) (c .refused .ok) (c .refused .ensures)))
 
 pub burst-receive-spec : {M : Type 1} → statement M

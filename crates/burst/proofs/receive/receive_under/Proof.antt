@@ -61,8 +61,8 @@ receive-frames-requires c κs =
     let o = c .before .before .before .before .before .before .before .if2 .left in
     ((G .k-most, G .n-most, G .m-most), omega arith)
 
-frames-requires : tie.Need-frames-requires
-frames-requires c κs = search needs
+counted-requires : tie.Need-counted-requires
+counted-requires c κs = search needs
 
 same-length : tie.Need-same-length
 same-length c = search needs
@@ -74,7 +74,7 @@ returns-4 c =
     let n = c .before .before .before .before .before .before .before .before .before .before .before .before .after-first .ensures in
     let o : length (a .input .now) - a .t1 .m ≤ length (a .output .now) = rw n at (c .before .before .before .before .before .before .before .before .before .before .before .if2 .left) in
     given-is (length (a .input .now) - a .t1 .m) (decoded (a .t1) (a .input .now)) (a .output .now) (decoded-length (a .t1) (a .input .now))
-    (answer-is (c .frames .result) (c .frames .ok) (c .frames .ensures ∙ ap pos n))
+    (answer-is (c .counted .result) (c .counted .ok) (c .counted .ensures ∙ ap pos n))
     (c .before .before .before .receive-frames .ensures (a .t1 .number) (a .t1 .generators) (start .pre) (refl {a = generatorSums (a .t1 .generators)}))
     ∙ sym
     (receive-given (a .t1) (a .input .now) (a .output .now) (c .before .before .before .before .before .before .before .before .before .before .before .before .before .if1 .left) o (sym (c .before .before .before .before .before .before .before .before .before .before .any-beyond .ensures) ∙ c .before .before .before .before .before .before .before .before .before .if3 .left))
@@ -93,6 +93,6 @@ receive-under-spec =
     refused-requires-3
     returns-3
     receive-frames-requires
-    frames-requires
+    counted-requires
     same-length
     returns-4)

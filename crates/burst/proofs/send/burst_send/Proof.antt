@@ -4,7 +4,8 @@ use borrow.Author.Needs.{needs}
 use Rattle.card.specs.Outcome.{outcomeOf}
 use Rattle.outcomes.specs.Outcome.{outcome}
 use Rattle.burst.proofs.Answers.{answer-is}
-use Rattle.outcomes.proofs.Outcomes.{sent-under, refused-by-card}
+use Rattle.outcomes.specs.Sending.{sendUnder, sendOf}
+use Rattle.outcomes.proofs.Outcomes.{by-card, refused-by-card}
 use Rattle.burst.proofs.send.burst_send.Statement.{statement}
 use Rattle.burst.proofs.send.burst_send.Tie as tie
 
@@ -27,18 +28,20 @@ same-length : tie.Need-same-length
 same-length c = search needs
 
 returns : tie.Need-returns
+unfolding sendOf
 returns c =
     let a = c .before .before .before .before .before .before .before .before .before .before .args in
     let read = c .before .before .before .before .before .before .read-card in
     let burst = c .before .before .send-under in
-    sent-under (a .card .now) (read .result) (read .ensures) (a .input .now) (a .output .now) (ap outcomeOf (c .before .before .before .before .enum-told .given .1))
+    by-card (a .card .now) (read .result) (read .ensures) (λ card. sendUnder card (a .input .now) (a .output .now)) (a .output .now) (ap outcomeOf (c .before .before .before .before .enum-told .given .1))
     (ap (λ (z : ℤ). outcome z (burst .last .1 .1 .0)) (answer-is (burst .result) (burst .ok) refl) ∙ burst .ensures)
 
 returns-2 : tie.Need-returns-2
+unfolding sendOf
 returns-2 c =
     let a = c .before .before .before .before .before .before .before .before .args in
     let read = c .before .before .before .before .read-card in
-    refused-by-card (a .card .now) (read .result) (read .ensures) (a .input .now) (a .output .now) (ap outcomeOf (c .before .before .verdict .given .1))
+    refused-by-card (a .card .now) (read .result) (read .ensures) (λ card. sendUnder card (a .input .now) (a .output .now)) (a .output .now) (ap outcomeOf (c .before .before .verdict .given .1))
     (answer-is (c .refused .result) (c .refused .ok) (c .refused .ensures))
 
 pub burst-send-spec : {M : Type 1} → statement M

@@ -48,8 +48,8 @@ returns-3 c =
 send-frames-requires : tie.Need-send-frames-requires
 send-frames-requires c κs = search needs
 
-frames-requires : tie.Need-frames-requires
-frames-requires c κs = search needs
+counted-requires : tie.Need-counted-requires
+counted-requires c κs = search needs
 
 same-length : tie.Need-same-length
 same-length c = search needs
@@ -60,7 +60,7 @@ returns-4 c =
     let a = start .args in
     let own : Names (a .card) (a .card .generators) (a .card .k) (a .card .p) (a .card .m) =
     record { guaranteed = start .pre; generators-are = refl; k-is = refl; p-is = refl; m-is = refl } in
-    given-is (length (a .input .now) + a .card .m) (sent (a .card) (a .input .now)) (a .output .now) (sent-length (a .card) (a .input .now)) (answer-is (c .frames .result) (c .frames .ok) (c .frames .ensures))
+    given-is (length (a .input .now) + a .card .m) (sent (a .card) (a .input .now)) (a .output .now) (sent-length (a .card) (a .input .now)) (answer-is (c .counted .result) (c .counted .ok) (c .counted .ensures))
     (c .before .before .before .send-frames .ensures (a .card) own)
     ∙ sym
     (under-sent (a .card) (a .input .now) (a .output .now) (c .before .before .before .before .before .before .before .before .before .before .if1 .left)
@@ -81,6 +81,6 @@ send-under-spec =
     refused-requires-3
     returns-3
     send-frames-requires
-    frames-requires
+    counted-requires
     same-length
     returns-4)

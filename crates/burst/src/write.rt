@@ -1,0 +1,41 @@
+// Writing a card: a card's bytes in, its one written form out.
+ghost use mathlib.Core.Path.{_≡_};
+ghost use Prim.Native.Nat.{_≤_};
+ghost use lib.ListN.{length};
+ghost use Rattle.code.specs.Code.{mostFrames};
+ghost use Rattle.outcomes.specs.Outcome.{outcome};
+ghost use Rattle.writer.specs.Written.{written};
+ghost use Rattle.writer.specs.Outcome.{writeUnder, writeOf};
+ghost use Rattle.writer.specs.Claims.{CarriesOn};
+use crate::answer::counted;
+use crate::answer::refused;
+use card::Verdict;
+use code::Card;
+use writer::CardWritten;
+
+// An accepted card.
+fn write_under(card: Card, output: &mut [u8]) -> i32
+    requires { ⌜ length (written card) ≤ mostFrames ⌝ }
+    ensures { λ r. ⌜ outcome r (now (output .exit)) ≡ writeUnder card (now (output .entry)) ⌝ }
+{
+    let answer = writer::write_card(card, output);
+    match answer {
+        CardWritten::Count(count) => counted(count),
+        CardWritten::Refused(refusal) => refused(refusal),
+    }
+}
+
+// Writes the card that the bytes state: the count of bytes, or minus the refusal. Only that many bytes of the output are written, and a refused
+// call writes none.
+#[no_mangle]
+pub extern "C" fn card_write(card: &[u8], output: &mut [u8]) -> i32
+    ensures { λ r. ⌜ outcome r (now (output .exit)) ≡ writeOf (now (card .entry)) (now (output .entry)) ⌝ }
+    ensures { λ r. ⌜ CarriesOn (now (card .entry)) (now (output .entry)) r (now (output .exit)) ⌝ }
+{
+    let read = card::read_card(card);
+    let verdict = read.verdict;
+    match verdict {
+        Verdict::Accepted => write_under(read.card, output),
+        Verdict::Refused { refusal, offset: _ } => refused(refusal),
+    }
+}

@@ -1,0 +1,110 @@
+-- What the clauses of the card writer's promises give for cards of the bench.
+use Prim.Native.Nat.{ℕ, _≤_, _<_}
+use mathlib.Core.Path.{_≡_, refl, sym, ap, subst, _∙_}
+use mathlib.Core.List.{List, _++_}
+use native.Mathlib.Omega.{arith}
+use lib.ListN.{length, take, drop}
+use lib.Seq.{take-all}
+use lib.IntN.{ℤ, pos, negℤ}
+use Rattle.code.specs.Bench.{P, T}
+use Rattle.code.specs.declared.Card.{Card}
+use Rattle.card.specs.Bench.{checks, cardP}
+use Rattle.card.specs.Outcome.{Outcome, CardOutcome}
+use Rattle.card.specs.Outcome.Outcome.{accepted}
+use Rattle.card.specs.Promise.{CardPromise}
+use Rattle.card.specs.Reading.{readCard}
+use Rattle.card.specs.declared.CardRead.{CardRead}
+use Rattle.card.proofs.Acceptance.{reads-back}
+use Rattle.outcomes.specs.Outcome.{BurstOutcome, outcome, refusedOf, givenOf, underCard}
+use Rattle.outcomes.proofs.ReadCards.{bytesT, read-P, read-short-P, read-T}
+use Rattle.writer.specs.Bench.{statedP, W, cardW, statedW}
+use Rattle.writer.specs.Written.{written}
+use Rattle.writer.specs.Outcome.{writeUnder, writeOf}
+use Rattle.writer.specs.Claims.{ReadsAs, StatesNoDefault, Plain, WrittenForm, CarriesOn}
+use Rattle.writer.proofs.Answers.{write-short, write-given}
+use Rattle.writer.proofs.Computed.{written-P, written-T, written-W, read-stated-P, read-stated-W}
+use Rattle.clients.specs.Cards.{fieldsP}
+use Rattle.clients.specs.Forms.{FormOfP}
+use Rattle.clients.proofs.CardClauses.{acceptable-P}
+
+-- ---- bytes that are read as a card whose written form is known
+module _ (bytes : List ℕ) (c : Card) (read : ReadsAs bytes c) (form : List ℕ) (known : written c ≡ form) (output : List ℕ) where
+  under : writeOf bytes output ≡ writeUnder c output
+  unfolding writeOf underCard
+  under = ap (λ (r : CardOutcome). underCard (r .outcome) (writeUnder (r .card) output) output) read
+
+  given : length form ≤ length output → writeOf bytes output ≡ givenOf form output
+  given room = under ∙ write-given c output (omega (arith, ap length known)) ∙ ap (λ (l : List ℕ). givenOf l output) known
+
+  short : length output < length form → writeOf bytes output ≡ refusedOf 13 output
+  short l = under ∙ write-short c output (omega (arith, ap length known))
+
+-- ---- P's fields
+none-stated-P : StatesNoDefault fieldsP
+none-stated-P = record { k-left-out = λ e. refl; n-left-out = λ e. refl }
+
+plain-P : Plain P cardP fieldsP
+plain-P =
+    record {
+      acceptable = acceptable-P;
+      card-is = ap (λ (r : CardOutcome). r .card) (sym (reads-back cardP fieldsP acceptable-P) ∙ read-P);
+      states-none = none-stated-P;
+    }
+
+-- ---- `card_write`
+pub comes-back-P : (output : List ℕ) → length output ≡ 22 → {r : ℤ} {after : List ℕ} → CarriesOn cardP output r after
+    → outcome r after ≡ outcome (pos 20) (cardP ++ drop 20 output)
+unfolding givenOf
+comes-back-P output room claim =
+    claim .comes-back fieldsP acceptable-P none-stated-P (omega arith)
+
+pub fits-P : (output : List ℕ) → length output ≡ 20 → {r : ℤ} {after : List ℕ} → CarriesOn cardP output r after → r ≡ pos 20
+unfolding givenOf
+fits-P output room claim =
+    ap (λ (b : BurstOutcome). b .answer) (claim .fits fieldsP acceptable-P (omega arith))
+    ∙ ap (λ (c : Card). pos (length (written c))) (plain-P .card-is)
+    ∙ ap (λ (l : List ℕ). pos (length l)) written-P
+
+pub carried-on-T : (output : List ℕ) → length output ≡ 37 → {r : ℤ} {after : List ℕ} → length after ≡ 37
+    → outcome r after ≡ writeOf bytesT output → CarriesOn bytesT output r after → readCard after ≡ record { outcome = accepted; card = T }
+unfolding givenOf checks
+carried-on-T output room {after = after} filled e claim =
+    let count = ap (λ (b : BurstOutcome). b .answer) (e ∙ given bytesT T read-T bytesT written-T output (omega arith)) in
+    ap readCard (sym (take-all 37 after (omega arith))) ∙ claim .reads-back 37 (omega arith) count ∙ read-T
+
+pub left-out-W : (output : List ℕ) → length output ≡ 18 → writeOf statedW output ≡ outcome (pos 16) (cardW ++ drop 16 output)
+unfolding givenOf
+left-out-W output room = given statedW W read-stated-W cardW written-W output (omega arith)
+
+pub no-room-P : (output : List ℕ) → length output ≡ 19 → writeOf cardP output ≡ outcome (negℤ (pos 13)) output
+unfolding refusedOf
+no-room-P output room = short cardP P read-P cardP written-P output (omega arith)
+
+pub refused-P : (output : List ℕ) → writeOf (take 19 cardP) output ≡ outcome (negℤ (pos 1)) output
+unfolding writeOf underCard refusedOf
+refused-P output =
+    ap (λ (o : Outcome). underCard o (writeUnder (readCard (take 19 cardP) .card) output) output) read-short-P
+
+-- ---- `write_card`, with the card that P's bytes with stated defaults are read as
+module _ (read : CardRead) (promise : CardPromise statedP read) where
+  card-P : read .card ≡ P
+  card-P = ap (λ (r : CardOutcome). r .card) (promise .is-read ∙ read-stated-P)
+
+  pub written-as-P : (output : List ℕ) → length output ≡ 22 → {b : BurstOutcome} → b ≡ writeUnder (read .card) output
+      → b ≡ outcome (pos 20) (cardP ++ drop 20 output)
+  unfolding givenOf
+  written-as-P output room e =
+      e ∙ ap (λ (c : Card). writeUnder c output) card-P
+      ∙ write-given P output (omega (arith, ap length written-P))
+      ∙ ap (λ (l : List ℕ). givenOf l output) written-P
+
+  pub form-of-P : WrittenForm (read .card) → FormOfP
+  form-of-P claims =
+      let form = subst WrittenForm card-P claims in
+      record {
+        reads-back = form .reads-back statedP read-stated-P;
+        states-none = form .states-none statedP read-stated-P;
+        one-only = form .one-only cardP fieldsP plain-P;
+        length-most = form .length-most statedP read-stated-P;
+        shortest = form .shortest cardP fieldsP acceptable-P (plain-P .card-is);
+      }

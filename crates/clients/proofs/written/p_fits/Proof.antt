@@ -1,0 +1,19 @@
+use borrow.Author.Needs.{needs}
+use Rattle.burst.proofs.Answers.{answer-is}
+use Rattle.clients.proofs.WriterClauses.{fits-P}
+use Rattle.clients.proofs.written.p_fits.Statement.{statement}
+use Rattle.clients.proofs.written.p_fits.Tie as tie
+
+slice-aggregate-card-write : tie.Need-slice-aggregate-card-write
+slice-aggregate-card-write c = search needs
+
+card-write-requires : tie.Need-card-write-requires
+card-write-requires c κs = search needs
+
+returns : tie.Need-returns
+returns c =
+    let written = c .card-write in
+    answer-is (written .result) (written .ok) (fits-P _ (search needs) (written .ensures .1))
+
+pub p-fits-spec : {M : Type 1} → statement M
+p-fits-spec = tie.close (tie.spec slice-aggregate-card-write card-write-requires returns)

@@ -1,0 +1,17 @@
+-- What the written form of card P is: document 02, R-1.
+-- Assumes nothing.
+use Prim.Native.Nat.{_≤_}
+use mathlib.Core.Path.{_≡_}
+use lib.ListN.{length}
+use Rattle.code.specs.Bench.{P}
+use Rattle.card.specs.Bench.{cardP}
+use Rattle.card.specs.Fields.{Fields}
+use Rattle.writer.specs.Written.{written}
+use Rattle.writer.specs.Claims.{ReadsAs, Plain}
+
+pub record FormOfP : Type 0 where
+  pub reads-back : ReadsAs (written P) P
+  pub states-none : (f : Fields) × Plain P (written P) f
+  pub one-only : written P ≡ cardP
+  pub length-most : length (written P) ≤ 1163
+  pub shortest : length (written P) ≤ 20

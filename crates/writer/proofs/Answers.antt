@@ -1,0 +1,72 @@
+-- What writing a card comes to: under each condition, and from what was laid out in no room, which counts the bytes, and in the output.
+use Prim.Native.Nat.{ℕ, _-_, _≤_, _<_, min}
+use mathlib.Core.Path.{_≡_, refl, sym, ap, ap₂, _∙_}
+use mathlib.Core.List.{List, [], _∷_, _++_}
+use mathlib.Core.Logic.{⊎-elim}
+use native.Mathlib.Omega.{arith}
+use lib.ListN.{length, drop}
+use lib.IntN.{pos, negℤ, pos-ne-negsuc}
+use lib.Signed.{mag}
+use borrow.Author.Tests.{lt-ltb, le-ltb}
+use Rattle.bits.proofs.Cases.{le-or-lt}
+use Rattle.code.specs.declared.Card.{Card}
+use Rattle.card.specs.Layout.{layout}
+use Rattle.outcomes.specs.Outcome.{BurstOutcome, outcome, refusedOf, givenOf}
+use Rattle.outcomes.specs.Wrote.{Wrote}
+use Rattle.outcomes.proofs.Outcomes.{refused-is, given-is}
+use Rattle.outcomes.proofs.Writing.{wrote-as, wrote-length, wrote-front}
+use Rattle.writer.specs.Written.{fieldsWith, fieldsOf, written}
+use Rattle.writer.specs.Outcome.{writeUnder}
+
+module _ (c : Card) (output : List ℕ) where
+  pub write-short : length output < length (written c) → writeUnder c output ≡ refusedOf 13 output
+  unfolding writeUnder
+  write-short l = rw (lt-ltb (length output) (length (written c)) l)
+
+  pub write-given : length (written c) ≤ length output → writeUnder c output ≡ givenOf (written c) output
+  unfolding writeUnder
+  write-given l = rw (le-ltb (length output) (length (written c)) l)
+
+  -- a count that is answered is that of the written bytes, which stand in the output
+  module _ {n : ℕ} {after : List ℕ} (e : outcome (pos n) after ≡ writeUnder c output) where
+    pub answered : outcome (pos n) after ≡ givenOf (written c) output
+    unfolding refusedOf
+    answered =
+        ⊎-elim (λ l. e ∙ write-given l) (λ l. absurd (pos-ne-negsuc n 12 (ap (λ (b : BurstOutcome). b .answer) (e ∙ write-short l))))
+        (le-or-lt (length (written c)) (length output))
+
+    pub count-is : n ≡ length (written c)
+    unfolding givenOf
+    count-is = ap (λ (b : BurstOutcome). mag (b .answer)) answered
+
+-- the numbers that are held to what the tables have places for
+pub laid-is : (c : Card) {k p m : ℕ} → k ≡ min (c .k) 4 → p ≡ min (c .p) (8 - k) → m ≡ min (c .m) 31
+    → layout (fieldsWith (c .number) k p m (c .generators) (c .counts) (c .checks)) ≡ written c
+unfolding written fieldsOf
+laid-is c ek ep em = rw (em, ep, ek)
+
+empty : (l : List ℕ) → length l ≡ 0 → l ≡ []
+empty [] e = refl
+empty (x ∷ l) e = absurd (omega arith)
+
+-- `none` is what the first call leaves of no room
+module _ (c : Card) (output : List ℕ) {none : List ℕ} {count : ℕ} {s : List ℕ} (e : s ≡ written c) (w : Wrote [] 0 s none count) where
+  counted : count ≡ length (written c)
+  counted = omega (arith, w .end-is, ap length e)
+
+  still : none ++ output ≡ output
+  still = ap (λ (l : List ℕ). l ++ output) (empty none (wrote-length w))
+
+  pub answer-short : length (none ++ output) < count → outcome (negℤ (pos 13)) (none ++ output) ≡ writeUnder c output
+  answer-short l =
+      ap (λ (o : List ℕ). outcome (negℤ (pos 13)) o) still
+      ∙ refused-is 13 output refl
+      ∙ sym (write-short c output (omega (arith, counted, ap length still)))
+
+  pub answer-count : {after : List ℕ} {r : ℕ} → count ≤ length (none ++ output) → Wrote (none ++ output) 0 s after r
+      → outcome (pos count) after ≡ writeUnder c output
+  answer-count l v =
+      let room : length (written c) ≤ length (none ++ output) = omega (arith, counted) in
+      let front = wrote-front (wrote-as e v) room in
+      given-is count (written c) output (sym counted) refl (front ∙ ap₂ (λ (n : ℕ) (l : List ℕ). written c ++ drop n l) (sym counted) still)
+      ∙ sym (write-given c output (omega (arith, ap length still)))

@@ -1,0 +1,79 @@
+-- What a call with a card's bytes is good for.
+use Prim.Native.Nat.{ℕ, zero, suc, _≤_, _<_}
+use mathlib.Core.Path.{_≡_, refl, sym, ap, _∙_}
+use mathlib.Core.List.{List}
+use native.Mathlib.Omega.{arith}
+use lib.ListN.{length, take, drop}
+use lib.Seq.{take-at}
+use lib.IntN.{ℤ, pos, pos-ne-negsuc}
+use lib.Signed.{mag}
+use Rattle.code.specs.declared.Card.{Card}
+use Rattle.card.specs.Fields.{Fields, cardOf}
+use Rattle.card.specs.Layout.{Acceptable}
+use Rattle.card.specs.Outcome.{Outcome, CardOutcome, outcomeOf}
+use Rattle.card.specs.Outcome.Outcome.{accepted, refused}
+use Rattle.card.specs.Promise.{CardPromise}
+use Rattle.card.specs.Reading.{readCard}
+use Rattle.card.specs.declared.CardRead.{CardRead}
+use Rattle.card.proofs.Acceptance as acceptance
+use Rattle.outcomes.specs.Outcome.{BurstOutcome, outcome, refusedOf, givenOf, underCard}
+use Rattle.writer.specs.Written.{written}
+use Rattle.writer.specs.Outcome.{writeUnder, writeOf}
+use Rattle.writer.specs.Claims.{StatesNoDefault, CarriesOn}
+use Rattle.writer.proofs.Answers.{write-given, answered, count-is}
+use Rattle.writer.proofs.Forms.{written-form}
+
+-- ---- an answer above zero
+module _ (output : List ℕ) {after : List ℕ} (n : ℕ) (positive : 0 < n) where
+  not-refused : (m : ℕ) → outcome (pos n) after ≡ refusedOf m output → ⊥
+  unfolding refusedOf
+  not-refused zero e = let z : n ≡ 0 = ap (λ (b : BurstOutcome). mag (b .answer)) e in omega arith
+  not-refused (suc m) e = pos-ne-negsuc n m (ap (λ (b : BurstOutcome). b .answer) e)
+
+  written-bytes : (c : Card) → outcome (pos n) after ≡ writeUnder c output → take n after ≡ written c
+  unfolding givenOf
+  written-bytes c e =
+      ap (λ (b : BurstOutcome). take n (b .output)) (answered c output e)
+      ∙ take-at (written c) (drop (length (written c)) output) n (sym (count-is c output e))
+
+  read-back : (card : List ℕ) (o : Outcome) (c : Card) → readCard card ≡ record { outcome = o; card = c }
+      → outcome (pos n) after ≡ underCard o (writeUnder c output) output → readCard (take n after) ≡ readCard card
+  unfolding underCard
+  read-back card accepted c e q = ap readCard (written-bytes c q) ∙ written-form c .reads-back card e ∙ sym e
+  read-back card (refused m at) c e q = absurd (not-refused m q)
+
+-- ---- the card that is read
+
+-- a card that is accepted has a written form that is no longer than any card
+pub accepted-length : (card : List ℕ) (read : CardRead) → CardPromise card read → outcomeOf (read .verdict) ≡ accepted → length (written (read .card)) ≤ 1163
+accepted-length card read promise e =
+    written-form (read .card) .length-most card (sym (promise .is-read) ∙ ap (λ (o : Outcome). record { outcome = o; card = read .card }) e)
+
+-- ---- the claims of a call
+module _ (card output : List ℕ) where
+  fit : (f : Fields) → Acceptable card f → length card ≤ length output → writeOf card output ≡ givenOf (written (cardOf f)) output
+  unfolding writeOf underCard
+  fit f a room =
+      ap (λ (r : CardOutcome). underCard (r .outcome) (writeUnder (r .card) output) output) (acceptance.reads-back card f a)
+      ∙ write-given (cardOf f) output (omega (arith, written-form (cardOf f) .shortest card f a refl))
+
+  come-back : (f : Fields) → Acceptable card f → StatesNoDefault f → length card ≤ length output → writeOf card output ≡ givenOf card output
+  come-back f a s room =
+      fit f a room
+      ∙ ap (λ (bytes : List ℕ). givenOf bytes output)
+      (written-form (cardOf f) .one-only card f (record { acceptable = a; card-is = refl; states-none = s }))
+
+  carries-on : {answer : ℤ} {after : List ℕ} → outcome answer after ≡ writeOf card output → CarriesOn card output answer after
+  unfolding writeOf
+  carries-on {after = after} e =
+      record {
+        reads-back = λ n positive count.
+            read-back output n positive card (readCard card .outcome) (readCard card .card) refl (ap (λ (z : ℤ). outcome z after) (sym count) ∙ e);
+        fits = λ f a room. e ∙ fit f a room;
+        comes-back = λ f a s room. e ∙ come-back f a s room;
+      }
+
+  -- both clauses of the promise
+  pub wrote-card : {answer : ℤ} {after : List ℕ} → outcome answer after ≡ writeOf card output
+      → (outcome answer after ≡ writeOf card output) × CarriesOn card output answer after
+  wrote-card e = (e, carries-on e)

@@ -1,0 +1,9 @@
+-- the code
+pub mod Laying
+pub mod Lengths
+pub mod Answers
+-- the claims
+pub mod FieldsBack
+pub mod Forms
+pub mod Carrying
+pub mod Computed

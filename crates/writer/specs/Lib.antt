@@ -1,0 +1,4 @@
+pub mod Written
+pub mod Outcome
+pub mod Claims
+pub mod Bench
