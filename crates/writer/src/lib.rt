@@ -46,8 +46,9 @@ pub fn write_card(card: Card, output: &mut [u8]) -> CardWritten
     let k = bits::at_most(card.k, 4);
     let p = bits::at_most(card.p, 8 - k);
     let m = bits::at_most(card.m, 31);
+    let none = 0;
     let count = lay_out(
-        &mut output[..0],
+        &mut output[..none],
         card.number,
         k,
         p,
