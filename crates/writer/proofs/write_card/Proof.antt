@@ -1,4 +1,6 @@
 -- Each way out of the call by its test.
+use mathlib.Core.Path.{sym}
+use lib.Seq.{length-take-le}
 use borrow.Author.Needs.{needs}
 use Rattle.writer.proofs.Answers.{laid-is, answer-short, answer-count}
 use Rattle.writer.proofs.Forms.{written-form}
@@ -21,7 +23,7 @@ slice-relend-prefix-lay-out : tie.Need-slice-relend-prefix-lay-out
 slice-relend-prefix-lay-out c = search needs
 
 slice-aggregate-lay-out : tie.Need-slice-aggregate-lay-out
-slice-aggregate-lay-out c = search needs
+slice-aggregate-lay-out c = sym (length-take-le _ (c .before .before .before .before .before .args .output .now) (search needs))
 
 lay-out-requires : tie.Need-lay-out-requires
 lay-out-requires c κs = search needs
