@@ -53,14 +53,15 @@ pub optional-length : (d v : ℕ) → length (optional d v) ≤ 1
 unfolding optional
 optional-length d v = ⊎-elim (λ q. rw (eq-eqb d 1 q) (omega arith)) (λ q. rw (ne-eqb d 1 q) (omega arith)) (same-or-not d 1)
 
-pub head-length : (h : Head) → length (layoutHead h) ≤ 5
+pub head-size : (h : Head) → length (layoutHead h) ≡ 3 + (length (optional (h .kStands) (h .k)) + length (optional (h .nStands) (h .n)))
 unfolding layoutHead
-head-length h =
+head-size h =
     let a = length-append (optional (h .kStands) (h .k)) (optional (h .nStands) (h .n) ++ (h .m ∷ [])) in
     let b = length-append (optional (h .nStands) (h .n)) (h .m ∷ []) in
-    let c = optional-length (h .kStands) (h .k) in
-    let d = optional-length (h .nStands) (h .n) in
     omega arith
+
+pub head-length : (h : Head) → length (layoutHead h) ≤ 5
+head-length h = omega (arith, head-size h, optional-length (h .kStands) (h .k), optional-length (h .nStands) (h .n))
 
 pub few-generators : (k p : ℕ) → k ≤ 4 → k + p ≤ 8 → k * p ≤ 16
 few-generators zero p h l = omega arith

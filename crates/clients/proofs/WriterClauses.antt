@@ -9,20 +9,20 @@ use lib.IntN.{ℤ, pos, negℤ}
 use Rattle.code.specs.Bench.{P, T}
 use Rattle.code.specs.declared.Card.{Card}
 use Rattle.card.specs.Bench.{checks, cardP}
-use Rattle.card.specs.Outcome.{Outcome, CardOutcome}
+use Rattle.card.specs.Outcome.{CardOutcome}
 use Rattle.card.specs.Outcome.Outcome.{accepted}
 use Rattle.card.specs.Promise.{CardPromise}
 use Rattle.card.specs.Reading.{readCard}
 use Rattle.card.specs.declared.CardRead.{CardRead}
 use Rattle.card.proofs.Acceptance.{reads-back}
 use Rattle.outcomes.specs.Outcome.{BurstOutcome, outcome, refusedOf, givenOf, underCard}
-use Rattle.outcomes.proofs.ReadCards.{bytesT, read-P, read-short-P, read-T}
+use Rattle.outcomes.proofs.ReadCards.{bytesT, read-P, read-T}
 use Rattle.writer.specs.Bench.{statedP, W, cardW, statedW}
 use Rattle.writer.specs.Written.{written}
 use Rattle.writer.specs.Outcome.{writeUnder, writeOf}
 use Rattle.writer.specs.Claims.{ReadsAs, StatesNoDefault, Plain, WrittenForm, CarriesOn}
 use Rattle.writer.proofs.Answers.{write-short, write-given}
-use Rattle.writer.proofs.Computed.{written-P, written-T, written-W, read-stated-P, read-stated-W}
+use Rattle.writer.proofs.Computed.{written-P, written-T, written-W, read-stated-P, read-stated-W, refused-short-P}
 use Rattle.clients.specs.Cards.{fieldsP}
 use Rattle.clients.specs.Forms.{FormOfP}
 use Rattle.clients.proofs.CardClauses.{acceptable-P}
@@ -81,9 +81,8 @@ unfolding refusedOf
 no-room-P output room = short cardP P read-P cardP written-P output (omega arith)
 
 pub refused-P : (output : List ℕ) → writeOf (take 19 cardP) output ≡ outcome (negℤ (pos 1)) output
-unfolding writeOf underCard refusedOf
-refused-P output =
-    ap (λ (o : Outcome). underCard o (writeUnder (readCard (take 19 cardP) .card) output) output) read-short-P
+unfolding refusedOf
+refused-P output = refused-short-P output
 
 -- ---- `write_card`, with the card that P's bytes with stated defaults are read as
 module _ (read : CardRead) (promise : CardPromise statedP read) where

@@ -46,14 +46,15 @@ pub fn default_is_left_out(output: &mut [u8; 18]) -> i32
     )
 }
 
-// One that is a byte shorter is left as it was; the card's refusal comes before that.
+// One that is a byte shorter is left as it was.
 pub fn p_finds_no_room(output: &mut [u8; 19]) -> i32
     ensures { λ r. ⌜ outcome r (now (output .exit)) ≡ outcome (negℤ (pos 13)) (now (output .entry)) ⌝ }
 {
     burst::write::card_write(&P, output)
 }
 
-pub fn short_p_is_refused(output: &mut [u8; 19]) -> i32
+// A card's refusal comes before that: the output is too short for any card.
+pub fn short_p_is_refused(output: &mut [u8; 1]) -> i32
     ensures { λ r. ⌜ outcome r (now (output .exit)) ≡ outcome (negℤ (pos 1)) (now (output .entry)) ⌝ }
 {
     burst::write::card_write(&P[..19], output)

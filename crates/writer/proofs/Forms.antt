@@ -1,20 +1,20 @@
 -- The written form of a card, and what it is good for: it is read as that card, states no default, and is the only such form.
-use Prim.Native.Nat.{ℕ, _+_, _≤_}
+use Prim.Native.Nat.{ℕ, _≤_}
 use mathlib.Core.Path.{_≡_, refl, sym, ap, ap₂, subst, _∙_}
 use mathlib.Core.Logic.{⊎-elim}
-use mathlib.Core.List.{List, [], _∷_, _++_}
+use mathlib.Core.List.{List, _++_}
 use native.Mathlib.Omega.{arith}
 use lib.ListN.{length, length-append}
 use borrow.Author.Tests.{eq-eqb, ne-eqb}
 use Rattle.bits.proofs.Cases.{same-or-not}
 use Rattle.code.specs.Checks.{Orthogonal}
 use Rattle.code.specs.declared.Card.{Card}
-use Rattle.card.specs.Fields.{Head, Fields, cardOf}
+use Rattle.card.specs.Fields.{Fields, cardOf}
 use Rattle.card.specs.Layout.{optional, layoutHead, layoutRows, layoutStreams, layout, InLimits, TrulyOrthogonal, Acceptable}
 use Rattle.card.specs.Outcome.{CardOutcome}
 use Rattle.card.specs.Outcome.Outcome.{accepted}
 use Rattle.card.proofs.Acceptance.{reads-back}
-use Rattle.card.proofs.CardLength.{optional-length, layout-length}
+use Rattle.card.proofs.CardLength.{optional-length, head-size, layout-length}
 use Rattle.card.proofs.WholeReading.{accepted-read}
 use Rattle.card.proofs.Limits.{read-in, read-standing}
 use Rattle.card.proofs.Orthogonality.{standing-truly}
@@ -58,15 +58,6 @@ field-shorter {stands} default v most out =
   where
     one : (stands ≡ 0 → ⊥) → stands ≡ 1
     one n = omega arith
-
-head-size : (h : Head) → length (layoutHead h) ≡ 3 + (length (optional (h .kStands) (h .k)) + length (optional (h .nStands) (h .n)))
-unfolding layoutHead
-head-size h =
-    omega (
-      arith,
-      length-append (optional (h .kStands) (h .k)) (optional (h .nStands) (h .n) ++ (h .m ∷ [])),
-      length-append (optional (h .nStands) (h .n)) (h .m ∷ []),
-    )
 
 -- ---- fields without defaults
 module _ (f : Fields) where

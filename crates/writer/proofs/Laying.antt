@@ -1,18 +1,16 @@
 -- The layout of a card with one mask, one row, one check or one stream more at the end: what one turn of a loop adds.
 use Prim.Native.Nat.{ℕ, zero, suc, _+_, _*_, _/_, _%_, _^_, _≤_, _<_, min}
 use mathlib.Core.Path.{_≡_, refl, sym, ap, ap₂, _∙_}
-use mathlib.Core.Bool.{cond}
 use mathlib.Core.List.{List, [], _∷_, _++_, map, append-nil, append-assoc, map-append}
 use native.Mathlib.Nat.{lt-of-lt-of-le}
 use native.Mathlib.Numerals.{add-one}
 use native.Mathlib.Omega.{arith}
 use lib.ListN.{length, getD, length-append}
 use lib.Pow.{pow-mono, shl-exact}
-use lib.Dec.{eqb}
 use Rattle.bits.specs.Sums.{upTo}
 use Rattle.bits.proofs.Lists.{upTo-length, upTo-more}
 use Rattle.card.specs.Fields.{Stream}
-use Rattle.card.specs.Layout.{bytes4, stands, mapOf, layoutMasks, optional, layoutHead, allRows, layoutRows, layoutChecks, layoutStreams}
+use Rattle.card.specs.Layout.{stands, mapOf, layoutMasks, optional, layoutHead, allRows, layoutRows, layoutChecks, layoutStreams}
 use Rattle.card.proofs.LayoutLaws as laws
 use Rattle.writer.specs.Written.{stated, headOf, masksAt, rowsOf, checksOf, streamOf, streamsOf}
 
@@ -47,14 +45,10 @@ module _ (table : List ℕ) (start : ℕ) where
     masks-more = upTo-more j (λ i. getD table (start + i) 0)
 
     pub masks-next : {v : ℕ} → v ≡ mask
-        → layoutMasks (masksAt table start j) ++ cond (eqb v 0) [] (bytes4 v) ≡ layoutMasks (masksAt table start (j + 1))
-    unfolding layoutMasks
+        → layoutMasks (masksAt table start j) ++ layoutMasks (v ∷ []) ≡ layoutMasks (masksAt table start (j + 1))
     masks-next e =
-        ap (λ v. layoutMasks (masksAt table start j) ++ cond (eqb v 0) [] (bytes4 v)) e
-        ∙ sym
-        (ap layoutMasks masks-more
-        ∙ laws.masks-append (masksAt table start j) (mask ∷ [])
-        ∙ ap (λ l. layoutMasks (masksAt table start j) ++ l) (append-nil (cond (eqb mask 0) [] (bytes4 mask))))
+        ap (λ v. layoutMasks (masksAt table start j) ++ layoutMasks (v ∷ [])) e
+        ∙ sym (ap layoutMasks masks-more ∙ laws.masks-append (masksAt table start j) (mask ∷ []))
 
     -- the map of the masks passed, x, with this mask's digit d put at its place
     pub map-next : {x d : ℕ} → j < 32 → x ≡ mapOf (masksAt table start j) → d ≡ stands mask

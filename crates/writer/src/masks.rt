@@ -1,11 +1,9 @@
 // Bytes and masks at a place of the output, stored where it has that place. Each function hands back the place after what it laid out; no card
 // reaches place 4,096.
 ghost use mathlib.Core.Path.{_≡_};
-ghost use mathlib.Core.Bool.{cond};
 ghost use mathlib.Core.List.{[], _∷_};
 ghost use Prim.Native.Nat.{_+_, _*_, _^_, _<_, _≤_};
-ghost use lib.Dec.{eqb};
-ghost use Rattle.card.specs.Layout.{bytes4, stands, mapOf, layoutMasks};
+ghost use Rattle.card.specs.Layout.{stands, mapOf, layoutMasks};
 ghost use Rattle.outcomes.specs.Wrote.{Wrote};
 ghost use Rattle.writer.specs.Written.{masksAt};
 
@@ -22,7 +20,7 @@ pub(crate) fn byte(output: &mut [u8], at: usize, value: u8) -> usize
 // The four bytes of a mask, none of a mask that is zero.
 fn mask(output: &mut [u8], at: usize, value: u32) -> usize
     requires { ⌜ at + 4 ≤ 4096 ⌝ }
-    ensures { λ r. ⌜ Wrote (now (output .entry)) at (cond (eqb value 0) [] (bytes4 value)) (now (output .exit)) r ⌝ }
+    ensures { λ r. ⌜ Wrote (now (output .entry)) at (layoutMasks (value ∷ [])) (now (output .exit)) r ⌝ }
 {
     if value == 0 {
         return at;

@@ -1,12 +1,13 @@
 -- A mask that is zero has no bytes, and any other four.
 use borrow.Author.Needs.{needs}
 use borrow.Author.Tests.{eq-eqb, ne-eqb}
-use Rattle.card.specs.Layout.{bytes4}
+use Rattle.card.specs.Layout.{bytes4, layoutMasks}
 use Rattle.outcomes.proofs.Writing.{wrote-nothing, wrote-both}
 use Rattle.writer.proofs.masks.mask.Statement.{statement}
 use Rattle.writer.proofs.masks.mask.Tie as tie
 
 returns : tie.Need-returns
+unfolding layoutMasks
 returns c =
     let a = c .before .before .args in
     rw (eq-eqb _ _ (c .if1 .taken)) (wrote-nothing (a .output .now) (a .at))
@@ -39,7 +40,7 @@ same-length : tie.Need-same-length
 same-length c = search needs
 
 returns-2 : tie.Need-returns-2
-unfolding bytes4
+unfolding bytes4 layoutMasks
 returns-2 c =
     let fourth = c .before .before in
     let third = fourth .before .before .before .before in
