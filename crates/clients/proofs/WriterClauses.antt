@@ -15,29 +15,25 @@ use Rattle.card.specs.Promise.{CardPromise}
 use Rattle.card.specs.Reading.{readCard}
 use Rattle.card.specs.declared.CardRead.{CardRead}
 use Rattle.card.proofs.Acceptance.{reads-back}
-use Rattle.outcomes.specs.Outcome.{BurstOutcome, outcome, refusedOf, givenOf, underCard}
-use Rattle.outcomes.proofs.ReadCards.{bytesT, read-P, read-T}
+use Rattle.outcomes.specs.Outcome.{BurstOutcome, outcome, refusedOf, givenOf}
+use Rattle.outcomes.proofs.ReadCards.{bytesT, read-P, read-short-P, read-T}
 use Rattle.writer.specs.Bench.{statedP, W, cardW, statedW}
 use Rattle.writer.specs.Written.{written}
 use Rattle.writer.specs.Outcome.{writeUnder, writeOf}
 use Rattle.writer.specs.Claims.{ReadsAs, StatesNoDefault, Plain, WrittenForm, CarriesOn}
-use Rattle.writer.proofs.Answers.{write-short, write-given}
-use Rattle.writer.proofs.Computed.{written-P, written-T, written-W, read-stated-P, read-stated-W, refused-short-P}
+use Rattle.writer.proofs.Answers.{write-refused, write-accepted, write-short, write-given}
+use Rattle.writer.proofs.Computed.{written-P, written-T, written-W, read-stated-P, read-stated-W}
 use Rattle.clients.specs.Cards.{fieldsP}
 use Rattle.clients.specs.Forms.{FormOfP}
 use Rattle.clients.proofs.CardClauses.{acceptable-P}
 
 -- ---- bytes that are read as a card whose written form is known
 module _ (bytes : List ℕ) (c : Card) (read : ReadsAs bytes c) (form : List ℕ) (known : written c ≡ form) (output : List ℕ) where
-  under : writeOf bytes output ≡ writeUnder c output
-  unfolding writeOf underCard
-  under = ap (λ (r : CardOutcome). underCard (r .outcome) (writeUnder (r .card) output) output) read
-
   given : length form ≤ length output → writeOf bytes output ≡ givenOf form output
-  given room = under ∙ write-given c output (omega (arith, ap length known)) ∙ ap (λ (l : List ℕ). givenOf l output) known
+  given room = write-accepted bytes output read ∙ write-given c output (omega (arith, ap length known)) ∙ ap (λ (l : List ℕ). givenOf l output) known
 
   short : length output < length form → writeOf bytes output ≡ refusedOf 13 output
-  short l = under ∙ write-short c output (omega (arith, ap length known))
+  short l = write-accepted bytes output read ∙ write-short c output (omega (arith, ap length known))
 
 -- ---- P's fields
 none-stated-P : StatesNoDefault fieldsP
@@ -82,7 +78,7 @@ no-room-P output room = short cardP P read-P cardP written-P output (omega arith
 
 pub refused-P : (output : List ℕ) → writeOf (take 19 cardP) output ≡ outcome (negℤ (pos 1)) output
 unfolding refusedOf
-refused-P output = refused-short-P output
+refused-P output = write-refused (take 19 cardP) output read-short-P
 
 -- ---- `write_card`, with the card that P's bytes with stated defaults are read as
 module _ (read : CardRead) (promise : CardPromise statedP read) where

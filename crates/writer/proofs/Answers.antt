@@ -11,13 +11,29 @@ use borrow.Author.Tests.{lt-ltb, le-ltb}
 use Rattle.bits.proofs.Cases.{le-or-lt}
 use Rattle.code.specs.declared.Card.{Card}
 use Rattle.card.specs.Layout.{layout}
-use Rattle.outcomes.specs.Outcome.{BurstOutcome, outcome, refusedOf, givenOf}
+use Rattle.card.specs.Outcome.{Outcome, CardOutcome}
+use Rattle.card.specs.Outcome.Outcome.{refused}
+use Rattle.card.specs.Reading.{readCard}
+use Rattle.outcomes.specs.Outcome.{BurstOutcome, outcome, refusedOf, givenOf, underCard}
 use Rattle.outcomes.specs.Wrote.{Wrote}
 use Rattle.outcomes.proofs.Outcomes.{refused-is, given-is}
 use Rattle.outcomes.proofs.Writing.{wrote-as, wrote-length, wrote-front}
 use Rattle.writer.specs.Written.{fieldsWith, fieldsOf, written}
-use Rattle.writer.specs.Outcome.{writeUnder}
+use Rattle.writer.specs.Outcome.{writeUnder, writeOf}
+use Rattle.writer.specs.Claims.{ReadsAs}
 
+-- ---- with the card's bytes
+module _ (card output : List ℕ) where
+  -- whatever room there is, none too
+  pub write-refused : {n at : ℕ} → readCard card .outcome ≡ refused n at → writeOf card output ≡ refusedOf n output
+  unfolding writeOf underCard
+  write-refused e = ap (λ (o : Outcome). underCard o (writeUnder (readCard card .card) output) output) e
+
+  pub write-accepted : {c : Card} → ReadsAs card c → writeOf card output ≡ writeUnder c output
+  unfolding writeOf underCard
+  write-accepted e = ap (λ (r : CardOutcome). underCard (r .outcome) (writeUnder (r .card) output) output) e
+
+-- ---- a card
 module _ (c : Card) (output : List ℕ) where
   pub write-short : length output < length (written c) → writeUnder c output ≡ refusedOf 13 output
   unfolding writeUnder
@@ -38,6 +54,8 @@ module _ (c : Card) (output : List ℕ) where
     pub count-is : n ≡ length (written c)
     unfolding givenOf
     count-is = ap (λ (b : BurstOutcome). mag (b .answer)) answered
+
+-- ---- what was laid out
 
 -- the numbers that are held to what the tables have places for
 pub laid-is : (c : Card) {k p m : ℕ} → k ≡ min (c .k) 4 → p ≡ min (c .p) (8 - k) → m ≡ min (c .m) 31

@@ -16,11 +16,11 @@ use Rattle.card.specs.Promise.{CardPromise}
 use Rattle.card.specs.Reading.{readCard}
 use Rattle.card.specs.declared.CardRead.{CardRead}
 use Rattle.card.proofs.Acceptance as acceptance
-use Rattle.outcomes.specs.Outcome.{BurstOutcome, outcome, refusedOf, givenOf, underCard}
+use Rattle.outcomes.specs.Outcome.{BurstOutcome, outcome, refusedOf, givenOf}
 use Rattle.writer.specs.Written.{written}
 use Rattle.writer.specs.Outcome.{writeUnder, writeOf}
 use Rattle.writer.specs.Claims.{StatesNoDefault, CarriesOn}
-use Rattle.writer.proofs.Answers.{write-given, answered, count-is}
+use Rattle.writer.proofs.Answers.{write-refused, write-accepted, write-given, answered, count-is}
 use Rattle.writer.proofs.Forms.{written-form}
 
 -- ---- an answer above zero
@@ -37,10 +37,9 @@ module _ (output : List ℕ) {after : List ℕ} (n : ℕ) (positive : 0 < n) whe
       ∙ take-at (written c) (drop (length (written c)) output) n (sym (count-is c output e))
 
   read-back : (card : List ℕ) (o : Outcome) (c : Card) → readCard card ≡ record { outcome = o; card = c }
-      → outcome (pos n) after ≡ underCard o (writeUnder c output) output → readCard (take n after) ≡ readCard card
-  unfolding underCard
-  read-back card accepted c e q = ap readCard (written-bytes c q) ∙ written-form c .reads-back card e ∙ sym e
-  read-back card (refused m at) c e q = absurd (not-refused m q)
+      → outcome (pos n) after ≡ writeOf card output → readCard (take n after) ≡ readCard card
+  read-back card accepted c e q = ap readCard (written-bytes c (q ∙ write-accepted card output e)) ∙ written-form c .reads-back card e ∙ sym e
+  read-back card (refused m at) c e q = absurd (not-refused m (q ∙ write-refused card output (ap (λ (r : CardOutcome). r .outcome) e)))
 
 -- ---- the card that is read
 
@@ -52,9 +51,8 @@ accepted-length card read promise e =
 -- ---- the claims of a call
 module _ (card output : List ℕ) where
   fit : (f : Fields) → Acceptable card f → length card ≤ length output → writeOf card output ≡ givenOf (written (cardOf f)) output
-  unfolding writeOf underCard
   fit f a room =
-      ap (λ (r : CardOutcome). underCard (r .outcome) (writeUnder (r .card) output) output) (acceptance.reads-back card f a)
+      write-accepted card output (acceptance.reads-back card f a)
       ∙ write-given (cardOf f) output (omega (arith, written-form (cardOf f) .shortest card f a refl))
 
   come-back : (f : Fields) → Acceptable card f → StatesNoDefault f → length card ≤ length output → writeOf card output ≡ givenOf card output
@@ -64,7 +62,6 @@ module _ (card output : List ℕ) where
       (written-form (cardOf f) .one-only card f (record { acceptable = a; card-is = refl; states-none = s }))
 
   carries-on : {answer : ℤ} {after : List ℕ} → outcome answer after ≡ writeOf card output → CarriesOn card output answer after
-  unfolding writeOf
   carries-on {after = after} e =
       record {
         reads-back = λ n positive count.

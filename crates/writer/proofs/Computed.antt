@@ -1,8 +1,5 @@
--- The written form of cards of the bench, by computing, what bytes with a stated default are read as, and that a card's refusal comes before 13.
-use Prim.Native.Nat.{ℕ}
-use mathlib.Core.Path.{_≡_, refl, ap}
-use mathlib.Core.List.{List}
-use lib.ListN.{take}
+-- The written form of cards of the bench, by computing, and what bytes with a stated default are read as.
+use mathlib.Core.Path.{_≡_, refl}
 use Rattle.bits.specs.Sums.{sumBelow, upTo, back}
 use Rattle.bits.specs.Digits.{bit}
 use Rattle.code.specs.Bench.{P, T}
@@ -11,14 +8,11 @@ use Rattle.code.specs.Checks.{count, checkMask, touchesInfo, touchesBy}
 use Rattle.card.specs.Bench.{checks, cardP}
 use Rattle.card.specs.Fields.{store, storeRows, storeChecks, storeStreams, storeCounts, cardOf}
 use Rattle.card.specs.Layout.{bytes4, stands, mapOf, layoutMasks, optional, layoutHead, allRows, layoutRows, layoutChecks, layoutStreams, layout}
-use Rattle.card.specs.Outcome.{Outcome}
 use Rattle.card.specs.Outcome.Outcome.{accepted}
 use Rattle.card.specs.Reading.{byteField, kField, nField, mapField, wordAt, maskField, readHead, standingMask, readMasks, readRows, readGenerators}
 use Rattle.card.specs.Reading.{otherError, touchedBy, clashes, judge, readCheck, readChecks, readStreams, readFields, readCard}
-use Rattle.outcomes.specs.Outcome.{refusedOf, underCard}
-use Rattle.outcomes.proofs.ReadCards.{bytesT, read-short-P}
+use Rattle.outcomes.proofs.ReadCards.{bytesT}
 use Rattle.writer.specs.Written.{stated, masksAt, rowsOf, checksOf, streamOf, streamsOf, fieldsOf, written}
-use Rattle.writer.specs.Outcome.{writeUnder, writeOf}
 use Rattle.writer.specs.Bench.{statedP, W, cardW, statedW}
 
 -- "a field equal to its default is left out", and no other; a mask that is zero does not stand
@@ -44,8 +38,3 @@ read-stated-P = readings .0
 
 pub read-stated-W : readCard statedW ≡ record { outcome = accepted; card = W }
 read-stated-W = readings .1
-
--- whatever room there is, none too
-pub refused-short-P : (output : List ℕ) → writeOf (take 19 cardP) output ≡ refusedOf 1 output
-unfolding writeOf underCard
-refused-short-P output = ap (λ (o : Outcome). underCard o (writeUnder (readCard (take 19 cardP) .card) output) output) read-short-P
