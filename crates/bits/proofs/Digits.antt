@@ -2,15 +2,15 @@
 use Prim.Native.Nat.{ℕ, zero, suc, _+_, _-_, _*_, _/_, _%_, _^_, _≤_, _<_, min, max}
 use mathlib.Core.Path.{_≡_, refl, sym, ap, ap₂, _∙_}
 use mathlib.Core.Logic.{⊎-elim}
-use native.Mathlib.Nat.{mod-lt, zero-lt-suc, div-eq-of-lt, lt-of-lt-of-le, zero-div, pow-suc, pow-succ', mul-le-mul-right, mod-eq-of-lt}
+use native.Mathlib.Nat.{mod-lt, zero-lt-suc, div-eq-of-lt, div-lt-iff-lt-mul, lt-of-lt-of-le, zero-div, pow-suc, pow-succ', mul-le-mul-right, mod-eq-of-lt}
 use native.Mathlib.Numerals.{add-one, one-add}
 use native.Mathlib.Omega.{arith}
-use lib.Pow.{pow-mono, shr-shr, high, low, field, mod-mod-pow, mod-pow-add}
+use lib.Pow.{pow-pos, pow-mono, shr-shr, high, low, field, mod-mod-pow, mod-pow-add}
 use lib.Bits.{bitAnd, bitOr, bitXor, and-shr, and-step, or-shr, or-step, xor-shr, xor-add-and, shifted-half, shifted-even}
 use lib.Count.{ones, ones-step}
 use Rattle.bits.specs.Sums.{sumBelow, xorBelow}
 use Rattle.bits.specs.Digits.{bit, fromDigits}
-use Rattle.bits.proofs.Cases.{last-or-below}
+use Rattle.bits.proofs.Cases.{le-or-lt, last-or-below}
 use Rattle.bits.proofs.Sums.{sum-same, sum-cong, sum-first, sum-cut}
 
 pub bit-le : (x a : ℕ) → bit x a ≤ 1
@@ -60,6 +60,20 @@ place-other d zero (suc a) h n = let e : d * 1 / 2 ≡ 0 = omega arith in bit-su
 place-other d (suc p) zero h n = bit-zero (d * 2 ^ suc p) ∙ shifted-even d p
 place-other d (suc p) (suc a) h n =
     bit-suc (d * 2 ^ suc p) a ∙ ap (λ (x : ℕ). bit x a) (shifted-half d p) ∙ place-other d p a h (λ e. n (ap suc e))
+
+-- ---- a number that a loop halves until nothing is left of it
+
+pub halved-more : (x l : ℕ) {rest : ℕ} → rest ≡ x / 2 ^ l → rest / 2 ≡ x / 2 ^ (l + 1)
+halved-more x l e = ap (λ n. n / 2) e ∙ shr-shr x l 1
+
+-- something left, at most w turns
+pub halved-within : (x w l : ℕ) → x < 2 ^ w → 0 < x / 2 ^ l → l < w
+halved-within x w l h p =
+    ⊎-elim (λ k. absurd (omega (arith, div-eq-of-lt (lt-of-lt-of-le h (pow-mono k))))) (λ k. k) (le-or-lt w l)
+
+-- nothing left, no digit more
+pub halved-whole : (x l : ℕ) → x / 2 ^ l ≤ 0 → x < 2 ^ l
+halved-whole x l h = omega (arith, div-lt-iff-lt-mul {k = 2 ^ l} {x = x} {y = 1} (pow-pos l) .0 (omega arith))
 
 -- ---- numbers made of digits
 
@@ -147,15 +161,18 @@ unfolding bit
 bit-xor x y a =
     ap (λ (n : ℕ). n % 2) (xor-shr x y a) ∙ omega (arith, xor-add-and (x / 2 ^ a) (y / 2 ^ a))
 
-bit-times : (g e a : ℕ) → e < 2 → bit (g * e) a ≡ bit g a * e
+-- a mask taken or not
+pub bit-times : (g e a : ℕ) → e < 2 → bit (g * e) a ≡ bit g a * e
 bit-times g zero a h = let z : g * 0 ≡ 0 = omega arith in ap (λ (x : ℕ). bit x a) z ∙ bit-of-zero a ∙ omega arith
 bit-times g (suc zero) a h = let z : g * 1 ≡ g = omega arith in ap (λ (x : ℕ). bit x a) z ∙ omega arith
 bit-times g (suc (suc e)) a h = absurd (omega arith)
 
--- the digits of an exclusive or of masks, each taken or not
-pub bit-masks : (k : ℕ) (g e : ℕ → ℕ) → ((i : ℕ) → e i < 2) → (a : ℕ) → bit (xorBelow k (λ i. g i * e i)) a ≡ sumBelow k (λ i. bit (g i) a * e i) % 2
+-- the digits of an exclusive or of words
+pub bit-xors : (k : ℕ) (f : ℕ → ℕ) (a : ℕ) → bit (xorBelow k f) a ≡ sumBelow k (λ i. bit (f i) a) % 2
 unfolding sumBelow xorBelow
-bit-masks zero g e h a = bit-of-zero a
-bit-masks (suc k) g e h a =
-    bit-xor (xorBelow k (λ i. g i * e i)) (g k * e k) a
-    ∙ omega (arith, bit-masks k g e h a, bit-times (g k) (e k) a (h k))
+bit-xors zero f a = bit-of-zero a
+bit-xors (suc k) f a = bit-xor (xorBelow k f) (f k) a ∙ omega (arith, bit-xors k f a)
+
+-- and of masks, each taken or not
+pub bit-masks : (k : ℕ) (g e : ℕ → ℕ) → ((i : ℕ) → e i < 2) → (a : ℕ) → bit (xorBelow k (λ i. g i * e i)) a ≡ sumBelow k (λ i. bit (g i) a * e i) % 2
+bit-masks k g e h a = bit-xors k (λ i. g i * e i) a ∙ ap (λ (n : ℕ). n % 2) (sum-cong k (λ i. bit-times (g i) (e i) a (h i)))

@@ -4,3 +4,4 @@ pub mod Lists
 pub mod Back
 pub mod Digits
 pub mod Words
+pub mod Held

@@ -1,10 +1,11 @@
 -- The laws of 32-bit words: what two have in common, shifts, loops that add up masked words or digits at their places, and frames with a
 -- digit beyond their streams.
-use Prim.Native.Nat.{ℕ, _+_, _-_, _*_, _/_, _%_, _^_, _≤_, _<_}
+use Prim.Native.Nat.{ℕ, zero, suc, _+_, _-_, _*_, _/_, _%_, _^_, _≤_, _<_}
 use mathlib.Core.Path.{_≡_, refl, sym, ap, _∙_}
 use mathlib.Core.Bool.{Bool, true, false, _||_}
+use mathlib.Core.Logic.{⊎-elim}
 use mathlib.Core.List.{List}
-use native.Mathlib.Nat.{le-div-iff-mul-le, div-eq-of-lt, lt-of-le-of-lt, lt-of-lt-of-le, mul-assoc, mul-mod-left, sub-add-cancel}
+use native.Mathlib.Nat.{eq-or-lt-of-le, le-div-iff-mul-le, div-eq-of-lt, lt-of-le-of-lt, lt-of-lt-of-le, mul-assoc, mul-mod-left, mul-div-cancel, sub-add-cancel}
 use native.Mathlib.Numerals.{add-one}
 use native.Mathlib.Omega.{arith}
 use lib.Dec.{leb, ltb}
@@ -12,12 +13,12 @@ use lib.ListN.{length, getD, drop, drop-of-length-le}
 use lib.Seq.{drop-cons}
 use lib.Pow.{pow-pos, pow-add, pow-mono, shl-exact}
 use borrow.Author.Tests.{lt-ltb, leb-true, leb-false}
-use lib.Bits.{bitAnd, bitXor, and-le-l, and-lt, xor-lt}
+use lib.Bits.{bitAnd, bitXor, and-le-l, and-lt, xor-lt, xor-zero-r}
 use lib.Count.{ones, ones-le}
 use Rattle.bits.specs.Sums.{sumBelow, xorBelow}
 use Rattle.bits.specs.Digits.{bit, fromDigits, dot, shiftUp, anyBeyond}
 use Rattle.bits.proofs.Sums.{sum-cong, sum-add, sum-cut, sum-mod, sum-more, sum-step}
-use Rattle.bits.proofs.Digits.{bit-and, bit-xor, bit-high, bit-shift, digits-lt, ones-sum}
+use Rattle.bits.proofs.Digits.{bit-and, bit-xor, bit-high, bit-mod, bit-shift, digits-lt, ones-sum}
 
 -- the ones of both words
 pub ones-and : (x y : ℕ) → x < 2 ^ 32 → ones (bitAnd x y) ≡ dot x y
@@ -43,6 +44,33 @@ shift-out x a h =
     ∙ ap (λ (n : ℕ). x * n % 2 ^ 32) (pow-add 2 (a - 32) 32)
     ∙ ap (λ (n : ℕ). n % 2 ^ 32) (sym (mul-assoc x (2 ^ (a - 32)) (2 ^ 32)))
     ∙ mul-mod-left (x * 2 ^ (a - 32)) (2 ^ 32)
+
+-- the digits of a word moved up: those below are zero, and each stands so many places further
+pub bit-up-low : (x l a : ℕ) → a < l → l < 32 → bit (shiftUp x l) a ≡ 0
+unfolding shiftUp bit
+bit-up-low x l a h w =
+    bit-mod (x * 2 ^ l) 32 a (omega arith)
+    ∙ ap (λ (n : ℕ). n / 2 ^ a % 2) (ap (λ (n : ℕ). x * n) (whole ∙ pow-add 2 (l - a) a) ∙ sym (mul-assoc x (2 ^ (l - a)) (2 ^ a)))
+    ∙ ap (λ (n : ℕ). n % 2) (mul-div-cancel (x * 2 ^ (l - a)) (pow-pos a))
+    ∙ ap (λ (n : ℕ). x * 2 ^ n % 2) more
+    ∙ ap (λ (n : ℕ). x * n % 2) (pow-add 2 (l - a - 1) 1)
+    ∙ ap (λ (n : ℕ). n % 2) (sym (mul-assoc x (2 ^ (l - a - 1)) 2))
+    ∙ mul-mod-left (x * 2 ^ (l - a - 1)) 2
+  where
+    whole : 2 ^ l ≡ 2 ^ (l - a + a)
+    whole = let e : l ≡ l - a + a = omega arith in ap (λ (n : ℕ). 2 ^ n) e
+
+    more : l - a ≡ l - a - 1 + 1
+    more = omega arith
+
+pub bit-up : (x l a : ℕ) → l ≤ a → a < 32 → bit (shiftUp x l) a ≡ bit x (a - l)
+unfolding shiftUp
+bit-up x l a h w =
+    let e : a ≡ l + (a - l) = omega arith in
+    bit-mod (x * 2 ^ l) 32 a w
+    ∙ ap (bit (x * 2 ^ l)) e
+    ∙ sym (bit-shift (x * 2 ^ l) l (a - l))
+    ∙ ap (λ (n : ℕ). bit n (a - l)) (mul-div-cancel x (pow-pos l))
 
 -- a digit put at a place within the word keeps its value
 pub shift-digit : (d a : ℕ) → d < 2 → a < 32 → shiftUp d a ≡ d * 2 ^ a
@@ -78,9 +106,28 @@ module _ (s x y : ℕ) (hs : s < 2 ^ 32) (hx : x < 2 ^ 32) (hy : y < 2 ^ 32) whe
   pub masked-step : (f : ℕ → ℕ) (i : ℕ) → ones s % 2 ≡ sumBelow i f % 2 → dot x y ≡ f i → ones (bitXor s (bitAnd x y)) % 2 ≡ sumBelow (i + 1) f % 2
   masked-step f i e d = masked-ones ∙ omega (arith, e, d, sum-more i f)
 
+-- ---- a loop that adds up words by exclusive or, each taken or not
+
 pub xor-more : (n : ℕ) (f : ℕ → ℕ) → xorBelow (n + 1) f ≡ bitXor (xorBelow n f) (f n)
 unfolding xorBelow
 xor-more n f = rw add-one
+
+-- terms that are zero from w on may be left out
+pub xor-cut : (n w : ℕ) (f : ℕ → ℕ) → w ≤ n → ((q : ℕ) → w ≤ q → f q ≡ 0) → xorBelow n f ≡ xorBelow w f
+unfolding xorBelow
+xor-cut zero w f h z = let e : 0 ≡ w = omega arith in ap (λ i. xorBelow i f) e
+xor-cut (suc n) w f h z =
+    ⊎-elim (λ e. ap (λ i. xorBelow i f) (sym e))
+    (λ l. let k : w ≤ n = omega arith in ap (bitXor (xorBelow n f)) (z n k) ∙ xor-zero-r (xorBelow n f) ∙ xor-cut n w f k z)
+    (eq-or-lt-of-le h)
+
+-- a mask taken or not stays a word
+pub mask-times-lt : (g d : ℕ) → g < 2 ^ 32 → d < 2 → g * d < 2 ^ 32
+mask-times-lt g zero h l = omega arith
+mask-times-lt g (suc zero) h l = omega arith
+mask-times-lt g (suc (suc d)) h l = absurd (omega arith)
+
+-- ---- frames with a digit beyond their streams
 
 -- what is left of a frame above its first n digits tells whether it has more
 pub beyond-test : (f n : ℕ) → ltb 0 (f / 2 ^ n) ≡ leb (2 ^ n) f

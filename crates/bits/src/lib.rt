@@ -1,6 +1,6 @@
 // Digits of 32-bit words. Every function is total: beyond a word or a table there are zeros.
 ghost use mathlib.Core.Path.{_≡_};
-ghost use Prim.Native.Nat.{_^_, _<_, _≤_, min};
+ghost use Prim.Native.Nat.{_/_, _^_, _<_, _≤_, min};
 ghost use lib.ListN.{getD};
 ghost use lib.Dec.{leb};
 ghost use Rattle.bits.specs.Digits.{bit, dot, shiftUp, anyBeyond};
@@ -24,6 +24,13 @@ pub fn shift_up(x: u32, a: usize) -> u32
     ensures { λ r. ⌜ r ≡ shiftUp x a ⌝ }
 {
     if a < 32 { x << a } else { 0 }
+}
+
+// x moved down by a places, what leaves the word lost.
+pub fn shift_down(x: u32, a: usize) -> u32
+    ensures { λ r. ⌜ r ≡ x / 2 ^ a ⌝ }
+{
+    if a < 32 { x >> a } else { 0 }
 }
 
 // Word i of a table, zero beyond it.

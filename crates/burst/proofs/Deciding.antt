@@ -11,7 +11,7 @@ use lib.ListN.{length, getD}
 use lib.Bits.{bitXor, xor-lt}
 use lib.Pow.{pow-pos}
 use borrow.Author.Tests.{lt-ltb, le-ltb, le-leb, lt-leb}
-use Rattle.bits.specs.Sums.{sumBelow}
+use Rattle.bits.specs.Sums.{sumBelow, grown}
 use Rattle.bits.specs.Digits.{bit}
 use Rattle.bits.proofs.Sums.{sum-none}
 use Rattle.bits.proofs.Lists.{part-at}
@@ -81,7 +81,7 @@ module _ (c : Card) (G : Guarantees c) (frames : List ℕ) (t : ℕ) (r : Regist
 
     fed-then : (j a : ℕ) → j < c .p → a < c .m
         → (bit (getD (r .syndromes) j 0) (suc a) + sumBelow (c .k) (λ i. generator c i j (suc a) * bit errors i)) % 2 ≡ syndromeHeld c frames (suc t) j a
-    unfolding decided syndromeHeld
+    unfolding decided grown syndromeHeld
     fed-then j a hj ha =
         let u = t - c .m in
         let before = decided c frames u in

@@ -2,30 +2,18 @@
 use Prim.Native.Nat.{ℕ, zero, suc, _+_, _*_, _≤_, _<_}
 use mathlib.Core.Path.{_≡_, refl}
 use mathlib.Core.List.{List}
-use mathlib.Core.Logic.{_⊎_, inl, inr, ⊎-elim}
+use mathlib.Core.Logic.{⊎-elim}
 use native.Mathlib.Nat.{zero-mul}
 use native.Mathlib.Omega.{arith}
 use lib.Dec.{eqb}
-use borrow.Author.Tests.{eqb-true, eq-eqb, ne-eqb}
-use Rattle.bits.proofs.Cases.{same-or-not, picked}
+use borrow.Author.Tests.{eqb-true, eq-eqb}
+use Rattle.bits.proofs.Cases.{picked}
 use Rattle.bits.proofs.Sums.{sum-none, none-of-sum}
-use Rattle.code.specs.Checks.{touchesBy}
-use Rattle.card.specs.Reading.{maskAt, otherError, touchedBy, clashes, judge}
+use Rattle.code.specs.Checks.{touchesBy, besides}
+use Rattle.card.specs.Reading.{maskAt, touchedBy, clashes, judge}
 use Rattle.code.specs.declared.Card.{Card}
+use Rattle.code.proofs.Besides.{besides-other, own-or-other}
 use Rattle.code.proofs.Touches.{touches-by-le}
-
--- ---- the errors other than that of the own digit
-pub other-one : (i b s : ℕ) → (b ≡ 0 → s ≡ i → ⊥) → otherError i b s ≡ 1
-unfolding otherError
-other-one i b s h = ⊎-elim (λ q. rw (eq-eqb b 0 q, ne-eqb s i (h q))) (λ q. rw (ne-eqb b 0 q)) (same-or-not b 0)
-
-pub own-or-other : (i b s : ℕ) → (otherError i b s ≡ 0) ⊎ (b ≡ 0 → s ≡ i → ⊥)
-unfolding otherError
-own-or-other i b s =
-    ⊎-elim
-    (λ q. ⊎-elim (λ w. inl (rw (eq-eqb b 0 q, eq-eqb s i w))) (λ w. inr (λ x y. w y)) (same-or-not s i))
-    (λ q. inr (λ x y. q x))
-    (same-or-not b 0)
 
 product-none : (d t x : ℕ) → t ≤ 1 → (t ≡ 1 → 1 ≤ x → ⊥) → d * (t * x) ≡ 0
 product-none d zero x h n = omega arith
@@ -44,7 +32,7 @@ module _ (c : Card) (i : ℕ) where
       sum-none (c .k + c .p) _ (λ s k.
       ⊎-elim
       (λ q. rw q (zero-mul _))
-      (λ q. product-none (otherError i b s) (touchesBy c (maskAt vs) b s) (touchedBy c earlier b s) (touches-by-le c (maskAt vs) b s) (h b s (omega arith) k q))
+      (λ q. product-none (besides i b s) (touchesBy c (maskAt vs) b s) (touchedBy c earlier b s) (touches-by-le c (maskAt vs) b s) (h b s (omega arith) k q))
       (own-or-other i b s)))
 
   module _ (b s : ℕ) (b-most : b ≤ c .m) (s-most : s < c .k + c .p) (other : b ≡ 0 → s ≡ i → ⊥) where
@@ -52,7 +40,7 @@ module _ (c : Card) (i : ℕ) where
     unfolding clashes
     clash-none earlier vs e t h =
         let z = none-of-sum (c .k + c .p) _ (none-of-sum (suc (c .m)) _ e b (omega arith)) s s-most in
-        let y : 1 * (1 * touchedBy c earlier b s) ≡ 0 = rw (other-one i b s other, t) at z in
+        let y : 1 * (1 * touchedBy c earlier b s) ≡ 0 = rw (besides-other i b s other, t) at z in
         omega arith
 
   pub judge-none : (earlier : List (List ℕ)) (vs : List ℕ) → judge c i earlier vs ≡ 0

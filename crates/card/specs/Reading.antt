@@ -9,7 +9,7 @@ use lib.Dec.{leb, ltb, eqb}
 use Rattle.bits.specs.Sums.{sumBelow}
 use Rattle.card.specs.Outcome.{CardOutcome}
 use Rattle.card.specs.Outcome.Outcome.{accepted, refused}
-use Rattle.code.specs.Checks.{touchesBy}
+use Rattle.code.specs.Checks.{touchesBy, besides}
 use Rattle.card.specs.Fields.{Head, Stream, Fields, emptyCard, codeOf, cardOf}
 use Rattle.code.specs.declared.Card.{Card}
 
@@ -110,10 +110,6 @@ readGenerators bs at k p m = field (mapField bs at (k * p)) λ map. readRows bs 
 abbrev pub maskAt : List ℕ → ℕ → ℕ
 maskAt vs j = getD vs j 0
 
--- 1 if (b, s) is not the error of the own digit, (0, i)
-unfoldable pub otherError : ℕ → ℕ → ℕ → ℕ
-otherError i b s = cond (eqb b 0) (cond (eqb s i) 0 1) 1
-
 -- how many of the checks touch the error (b, s)
 unfoldable pub touchedBy : Card → List (List ℕ) → ℕ → ℕ → ℕ
 touchedBy c [] b s = 0
@@ -122,7 +118,7 @@ touchedBy c (vs ∷ checks) b s = touchesBy c (maskAt vs) b s + touchedBy c chec
 -- zero unless the check touches an error, other than that of its own digit, that an earlier one of its stream touches
 unfoldable pub clashes : Card → ℕ → List (List ℕ) → List ℕ → ℕ
 clashes c i earlier vs =
-    sumBelow (suc (c .m)) (λ b. sumBelow (c .k + c .p) (λ s. otherError i b s * (touchesBy c (maskAt vs) b s * touchedBy c earlier b s)))
+    sumBelow (suc (c .m)) (λ b. sumBelow (c .k + c .p) (λ s. besides i b s * (touchesBy c (maskAt vs) b s * touchedBy c earlier b s)))
 
 -- the refusal of a whole check, 0 for none; "8 is tested before 9"
 unfoldable pub judge : Card → ℕ → List (List ℕ) → List ℕ → ℕ

@@ -4,3 +4,4 @@ pub mod Sent
 pub mod Registers
 pub mod Sending
 pub mod Touches
+pub mod Besides

@@ -5,7 +5,7 @@ use Prim.Native.Nat.{ℕ, suc, _+_, _-_, _*_, _%_, _≤_, _<_}
 use mathlib.Core.Path.{_≡_}
 use mathlib.Core.Bool.{cond}
 use lib.ListN.{getD}
-use lib.Dec.{ltb}
+use lib.Dec.{ltb, eqb}
 use Rattle.bits.specs.Sums.{sumBelow, back}
 use Rattle.bits.specs.Digits.{bit}
 use Rattle.code.specs.Code.{generator}
@@ -30,6 +30,10 @@ touchesBy c mask b s = cond (ltb s (c .k)) (touchesInfo c mask b s) (bit (mask (
 -- 1 if check q of stream i touches the error (b, s)
 unfoldable pub touches : Card → ℕ → ℕ → ℕ → ℕ → ℕ
 touches c i q b s = touchesBy c (checkMask c i q) b s
+
+-- 0 for the own digit of a check of stream i, (0, i), and 1 for every other digit (b, s)
+unfoldable pub besides : ℕ → ℕ → ℕ → ℕ
+besides i b s = cond (eqb b 0) (cond (eqb s i) 0 1) 1
 
 -- the checks for stream i are orthogonal: each touches (0, i), and no other error is touched by two of them
 pub record Orthogonal (c : Card) (i : ℕ) : Type 0 where

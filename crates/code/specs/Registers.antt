@@ -1,7 +1,7 @@
 -- The code by registers, for registers and tables of every value: what `code` computes. Nobody has to believe this file: the laws in
 -- proofs/Registers.antt tie it to the code of document 01 (`Code`).
 -- Assumes nothing.
-use Prim.Native.Nat.{ℕ, _+_, _-_, _*_, _%_, _^_, min}
+use Prim.Native.Nat.{ℕ, _+_, _-_, _*_, _/_, _%_, _^_, min}
 use mathlib.Core.Bool.{cond}
 use mathlib.Core.List.{List, _++_}
 use lib.ListN.{getD, drop, replicate}
@@ -32,3 +32,7 @@ digitBy g h k f s = cond (ltb s (min k 4)) (bit f s) (parityBy g h k (s - min k 
 -- the frame that is sent, eight digits at most
 unfoldable pub frameBy : List ℕ → List ℕ → ℕ → ℕ → ℕ → ℕ
 frameBy g h k p f = fromDigits (min k 4 + min p (8 - min k 4)) (digitBy g h k f)
+
+-- the registers of eight streams for the next frame, every digit a place further
+unfoldable pub movedOn : List ℕ → List ℕ
+movedOn y = upTo 8 (λ j. getD y j 0 / 2)

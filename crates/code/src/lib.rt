@@ -2,7 +2,7 @@
 // the last one taken.
 ghost use mathlib.Core.Path.{_≡_};
 ghost use Prim.Native.Nat.{_<_};
-ghost use Rattle.code.specs.Registers.{generatorMask, shiftIn, historyBy, parityBy, frameBy};
+ghost use Rattle.code.specs.Registers.{generatorMask, shiftIn, historyBy, parityBy, frameBy, movedOn};
 
 // A stream has at most this many frames, the tail included.
 pub const MOST_FRAMES: usize = 1048576;
@@ -79,4 +79,17 @@ pub fn frame(generators: &[u32; 32], registers: &[u32; 4], k: usize, p: usize, i
         j += 1;
     }
     digits
+}
+
+// The registers of eight streams for the next frame, every digit a place further.
+pub fn moved_on(held: &[u32; 8]) -> [u32; 8]
+    ensures { λ r. ⌜ r ≡ movedOn (now (held .entry)) ⌝ }
+{
+    let mut next = [0u32; 8];
+    let mut j = 0;
+    while j < 8 {
+        next[j] = bits::word(held, j) >> 1;
+        j += 1;
+    }
+    next
 }

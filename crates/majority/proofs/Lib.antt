@@ -5,6 +5,8 @@ pub mod Majority
 pub mod Linear
 pub mod Theorem
 pub mod Edges
+-- the second circuit
+pub mod SecondCircuit
 -- the link figure
 pub mod Figures
 -- the vote on registers

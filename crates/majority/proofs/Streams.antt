@@ -1,18 +1,17 @@
 -- The streams of the rule: how many errors are decided and frames handed out, and that what is decided stays.
-use Prim.Native.Nat.{ℕ, zero, suc, _-_, _≤_, _<_, min}
-use mathlib.Core.Path.{_≡_, refl, sym, ap, _∙_}
+use Prim.Native.Nat.{ℕ, _-_, _≤_, _<_, min}
+use mathlib.Core.Path.{_≡_, ap, _∙_}
 use mathlib.Core.Logic.{⊎-elim}
 use mathlib.Core.Bool.{cond}
-use mathlib.Core.List.{List, [], _∷_}
+use mathlib.Core.List.{List}
 use native.Mathlib.Omega.{arith}
-use lib.ListN.{length, getD, length-append, List·getD-append}
-use lib.Seq.{getD-at}
+use lib.ListN.{length, getD}
 use lib.Dec.{ltb}
 use borrow.Author.Tests.{lt-ltb, le-ltb}
 use Rattle.bits.specs.Digits.{bit}
-use Rattle.bits.proofs.Cases.{le-or-lt, last-or-below}
+use Rattle.bits.proofs.Cases.{le-or-lt}
 use Rattle.bits.proofs.Digits.{bit-from-digits}
-use Rattle.bits.proofs.Lists.{upTo-length, upTo-at}
+use Rattle.bits.proofs.Lists.{upTo-length, upTo-at, grown-length, grown-at}
 use Rattle.code.specs.Code.{digit}
 use Rattle.code.specs.declared.Card.{Card}
 use Rattle.code.proofs.Frames.{digit-out}
@@ -35,23 +34,12 @@ module _ (c : Card) (frames : List ℕ) where
 
   pub decided-length : (n : ℕ) → length (decided c frames n) ≡ n
   unfolding decided
-  decided-length zero = refl
-  decided-length (suc n) =
-      length-append (decided c frames n) (decideFrame c frames (decided c frames n) n ∷ []) ∙ omega (arith, decided-length n)
+  decided-length n = grown-length (decideFrame c frames) n
 
   -- a decided error stays
   pub decided-at : (n u : ℕ) → u < n → getD (decided c frames n) u 0 ≡ decideFrame c frames (decided c frames u) u
   unfolding decided
-  decided-at zero u l = absurd (omega arith)
-  decided-at (suc n) u l =
-      ⊎-elim
-      (λ e.
-      getD-at (decided c frames n) (decideFrame c frames (decided c frames n) n) [] 0 u (decided-length n ∙ sym e)
-      ∙ ap (λ v. decideFrame c frames (decided c frames v) v) (sym e))
-      (λ below.
-      List·getD-append (decided c frames n) (decideFrame c frames (decided c frames n) n ∷ []) 0 u (omega (arith, decided-length n))
-      ∙ decided-at n u below)
-      (last-or-below l)
+  decided-at n u l = grown-at (decideFrame c frames) n u l
 
   -- its digits, as they were decided ..
   pub decided-digit : (n u i : ℕ) → u < n → i < c .k → digit (decided c frames n) i u ≡ decide c frames (decided c frames u) u i

@@ -1,4 +1,5 @@
 pub mod Rule
+pub mod SecondCircuit
 pub mod AsSent
 pub mod Voting
 pub mod Edges

@@ -2,12 +2,12 @@
 -- `frames` are the received frames from time 0 on, `errors` the decided errors of the frames before the one that is decided, a digit for each
 -- information stream; both are lists of frames as in the code (`code`, `Code`).
 -- Assumes nothing.
-use Prim.Native.Nat.{ℕ, zero, suc, _+_, _-_, _*_, _%_}
+use Prim.Native.Nat.{ℕ, suc, _+_, _-_, _*_, _%_}
 use mathlib.Core.Bool.{cond}
-use mathlib.Core.List.{List, [], _∷_, _++_}
+use mathlib.Core.List.{List}
 use lib.ListN.{length}
 use lib.Dec.{ltb}
-use Rattle.bits.specs.Sums.{sumBelow, upTo}
+use Rattle.bits.specs.Sums.{sumBelow, upTo, grown}
 use Rattle.bits.specs.Digits.{bit, fromDigits}
 use Rattle.code.specs.Code.{digit, parityAt}
 use Rattle.code.specs.Checks.{count, checkMask}
@@ -40,8 +40,7 @@ decideFrame c frames errors u = fromDigits (c .k) (decide c frames errors u)
 
 -- the decided errors of the first n frames
 unfoldable pub decided : Card → List ℕ → ℕ → List ℕ
-decided c frames zero = []
-decided c frames (suc n) = decided c frames n ++ (decideFrame c frames (decided c frames n) n ∷ [])
+decided c frames n = grown (decideFrame c frames) n
 
 -- the frame of time u as it is handed out: received plus decided
 unfoldable pub corrected : Card → List ℕ → List ℕ → ℕ → ℕ

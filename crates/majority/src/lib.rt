@@ -1,4 +1,4 @@
-// Massey's majority vote on syndrome registers, for both receivers: bit a of register j is the syndrome of parity stream j, the errors decided
+// Massey's majority vote on syndrome registers, for the session of the first circuit and the burst: bit a of register j is the syndrome of parity stream j, the errors decided
 // before taken out, a frames after the frame that is decided. The rule on whole streams stands in specs/Rule.antt, the theorem that a
 // correctable stream comes out as sent in proofs/Theorem.antt.
 ghost use mathlib.Core.Path.{_≡_};
@@ -6,7 +6,7 @@ ghost use mathlib.Core.Bool.{cond};
 ghost use Prim.Native.Nat.{_*_, _<_, _≤_};
 ghost use lib.Bits.{bitAnd};
 ghost use lib.Dec.{ltb};
-ghost use Rattle.majority.specs.Voting.{checkBy, votesBy, decideBy};
+ghost use Rattle.majority.specs.Voting.{checkBy, votesBy, streamVotesBy, decideBy};
 
 // The digits that are 1 in both.
 fn common(x: u32, y: u32) -> u32
@@ -41,6 +41,23 @@ fn votes(checks: &[u32; 512], i: usize, count: usize, syndromes: &[u32; 8], p: u
         q += 1;
     }
     u32::count_ones(word)
+}
+
+// How many of the first checks of stream i are 1, on words that stand for syndromes. A stream, checks or words that the tables do not have are not looked
+// at.
+pub fn stream_votes(checks: &[u32; 512], i: usize, count: usize, words: &[u32; 8], p: usize) -> u32
+    ensures { λ r. ⌜ r ≡ streamVotesBy (now (checks .entry)) i count (now (words .entry)) p ⌝ }
+{
+    if i < 4 {
+        return votes(
+            checks,
+            i,
+            bits::at_most(count, 16),
+            words,
+            bits::at_most(p, 8),
+        );
+    }
+    0
 }
 
 // 1 if more than half of the checks are. A tie gives 0.

@@ -7,12 +7,12 @@ use Rattle.bits.specs.Sums.{sumBelow, back}
 use Rattle.bits.specs.Digits.{bit}
 use Rattle.code.specs.Bench.{s, P, T}
 use Rattle.code.specs.Code.{generator}
-use Rattle.code.specs.Checks.{count, checkMask, touchesInfo, touchesBy}
+use Rattle.code.specs.Checks.{count, checkMask, touchesInfo, touchesBy, besides}
 use Rattle.card.specs.Bench.{checks, cardP, cardT}
 use Rattle.card.specs.Fields.{store, storeRows, storeChecks, storeStreams, storeCounts, cardOf}
 use Rattle.card.specs.Outcome.Outcome.{accepted, refused}
 use Rattle.card.specs.Reading.{byteField, kField, nField, mapField, wordAt, maskField, readHead, standingMask, readMasks, readRows, readGenerators}
-use Rattle.card.specs.Reading.{otherError, touchedBy, clashes, judge, readCheck, readChecks, readStreams, readFields, readCard}
+use Rattle.card.specs.Reading.{touchedBy, clashes, judge, readCheck, readChecks, readStreams, readFields, readCard}
 
 -- T as the document has it, and with s0, s2 for stream 1
 abbrev pub bytesT : List ℕ
@@ -23,7 +23,7 @@ wrongT = cardT (s 0 ∷ s 2 ∷ []) (s 0 ∷ s 2 ∷ [])
 
 computed : (readCard cardP ≡ record { outcome = accepted; card = P }) × (readCard (take 19 cardP) .outcome ≡ refused 1 19)
     × (readCard bytesT ≡ record { outcome = accepted; card = T }) × (readCard wrongT .outcome ≡ refused 8 21)
-unfolding sumBelow back bit generator count checkMask touchesInfo touchesBy store storeRows storeChecks storeStreams storeCounts cardOf byteField kField nField mapField wordAt maskField readHead standingMask readMasks readRows readGenerators otherError touchedBy clashes judge readCheck readChecks readStreams readFields readCard checks
+unfolding sumBelow back bit generator count checkMask touchesInfo touchesBy store storeRows storeChecks storeStreams storeCounts cardOf byteField kField nField mapField wordAt maskField readHead standingMask readMasks readRows readGenerators besides touchedBy clashes judge readCheck readChecks readStreams readFields readCard checks
 computed = (refl, refl, refl, refl)
 
 pub read-P : readCard cardP ≡ record { outcome = accepted; card = P }
