@@ -1,20 +1,20 @@
 -- The starred cases follow from the definitions, by computing. Assumes nothing.
 use mathlib.Core.Path.{refl}
-use Rattle.bits.specs.Sums.{sumBelow, upTo, back}
+use Rattle.bits.specs.Sums.{sumBelow, upTo, back, grown}
 use Rattle.bits.specs.Digits.{bit, fromDigits, anyBeyond}
 use Rattle.code.specs.Code.{generator, digit, parityAt, withTail, sentDigit, sentFrame, sent}
-use Rattle.code.specs.Checks.{count, checkMask, touchesInfo, touchesBy}
+use Rattle.code.specs.Checks.{count, checkMask, touchesInfo, touchesBy, besides}
 use Rattle.card.specs.Fields.{store, storeRows, storeChecks, storeStreams, storeCounts, cardOf}
-use Rattle.card.specs.Reading.{byteField, kField, nField, mapField, wordAt, maskField, readHead, standingMask, readMasks, readRows, readGenerators, otherError, touchedBy, clashes, judge, readCheck, readChecks, readStreams, readFields, readCard}
+use Rattle.card.specs.Reading.{byteField, kField, nField, mapField, wordAt, maskField, readHead, standingMask, readMasks, readRows, readGenerators, touchedBy, clashes, judge, readCheck, readChecks, readStreams, readFields, readCard}
 use Rattle.majority.specs.Rule.{syndrome, cleared, checkAt, votes, decide, decideFrame, decided, corrected, decoded}
-use Rattle.decoder.specs.Calls.{answersBy}
+use Rattle.receiving.specs.Calls.{answersBy}
 use Rattle.outcomes.specs.Outcome.{refusedOf, givenOf, underCard}
 use Rattle.outcomes.specs.Receiving.{receiveUnder, receiveOf}
 use Rattle.card.specs.Bench.{checks}
 use Rattle.bench.specs.Rows.{Rows}
 
 pub rows : Rows
-unfolding sumBelow upTo back bit fromDigits anyBeyond generator digit parityAt withTail sentDigit sentFrame sent count checkMask syndrome cleared checkAt votes decide decideFrame decided corrected decoded answersBy refusedOf givenOf underCard receiveUnder receiveOf touchesInfo touchesBy store storeRows storeChecks storeStreams storeCounts cardOf byteField kField nField mapField wordAt maskField readHead standingMask readMasks readRows readGenerators otherError touchedBy clashes judge readCheck readChecks readStreams readFields readCard checks
+unfolding sumBelow upTo back grown bit fromDigits anyBeyond generator digit parityAt withTail sentDigit sentFrame sent count checkMask syndrome cleared checkAt votes decide decideFrame decided corrected decoded answersBy refusedOf givenOf underCard receiveUnder receiveOf touchesInfo touchesBy store storeRows storeChecks storeStreams storeCounts cardOf byteField kField nField mapField wordAt maskField readHead standingMask readMasks readRows readGenerators besides touchedBy clashes judge readCheck readChecks readStreams readFields readCard checks
 rows =
     record {
       P-is-accepted = refl;

@@ -10,8 +10,8 @@ use Rattle.code.specs.Code.{sent}
 use Rattle.card.specs.Outcome.Outcome.{accepted, refused}
 use Rattle.card.specs.Reading.{readCard}
 use Rattle.majority.specs.Rule.{decoded}
-use Rattle.decoder.specs.Answers.{waiting}
-use Rattle.decoder.specs.Calls.{answersBy}
+use Rattle.receiving.specs.Answers.{waiting}
+use Rattle.receiving.specs.Calls.{answersBy}
 use Rattle.outcomes.specs.Receiving.{receiveOf}
 use Rattle.code.specs.Bench.{s}
 use Rattle.card.specs.Bench.{cardP, cardQ, cardR, cardT}
@@ -45,7 +45,7 @@ pub record Rows : Type 0 where
   -- "Q receives 2, 2, 0, 0 as 1 (two of three votes)."
   pub Q-receives : decoded (readCard (cardQ (s 0 ∷ s 1 ∷ s 3 ∷ [])) .card) (2 ∷ 2 ∷ 0 ∷ 0 ∷ []) ≡ 1 ∷ []
   -- "P receives one frame: waiting."
-  pub P-receives-one : answersBy (readCard cardP .card) (3 ∷ []) ≡ waiting ∷ []
+  pub P-receives-one : answersBy decoded (readCard cardP .card) (3 ∷ []) ≡ waiting ∷ []
   -- "An empty burst received: 0 frames."
   pub empty-burst : receiveOf cardP [] [] ≡ record { answer = pos 0; output = [] }
   -- not the document's: without feedback T would give other frames, and feeding stream 1 back before stream 2 is decided would too

@@ -1,15 +1,15 @@
 // The cases of readings: document 01, "Readings and bursts", and the refusal 12.
+use crate::decoding;
 use crate::lines;
-use crate::receiving;
 use crate::tables;
 use crate::tables::Kind;
-use decoder::Reading;
 use decoder::Session;
+use receiving::Reading;
 
 pub(crate) fn receive(s: Session, number: u8, readings: [Reading; 8]) -> Session {
     let received = decoder::receive_readings(s, number, readings);
     let came = received.answer;
-    receiving::answer(came);
+    decoding::answer(came);
     received.session
 }
 
@@ -50,7 +50,7 @@ pub(crate) fn lettered(first: u8, third: u8, other: u8) -> [Reading; 8] {
 
 // What a row feeds are the letters of the first reading, of the third and of those after it. The card has no memory.
 pub(crate) fn row(fed: &[u8]) {
-    let s = receiving::opened(b'M');
+    let s = decoding::opened(b'M');
     let card = s.card;
     let levels = lettered(
         tables::byte(fed, 0),

@@ -1,13 +1,13 @@
 // The bench: the cases of document 01, "Cards on the bench". The starred ones are a theorem over the definitions; all of them run here
 // through the code, and the lines are held to `stdout`.
 mod bursts;
+mod decoding;
 mod drafts;
 mod levels;
 mod limits;
 mod lines;
 mod listed;
 mod reading;
-mod receiving;
 mod sending;
 mod tables;
 
@@ -22,7 +22,7 @@ fn main() {
     starred_rows();
     reading::cases();
     sending::cases();
-    receiving::cases();
+    decoding::cases();
     limits::cases();
     listed::cases();
 }

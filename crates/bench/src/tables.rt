@@ -4,12 +4,12 @@
 // A table is one byte string, for one loop to walk: a call for each row, with a byte string for its name, is dear to check.
 use crate::bursts;
 use crate::bursts::Call;
+use crate::decoding;
 use crate::levels;
 use crate::limits;
 use crate::lines;
 use crate::listed;
 use crate::reading;
-use crate::receiving;
 use crate::sending;
 
 // What the rows of a table are about.
@@ -27,7 +27,7 @@ fn row(kind: Kind, fed: &[u8]) {
     match kind {
         Kind::Card => lines::outcome(reading::drafted(fed)),
         Kind::Sending => sending::row(fed),
-        Kind::Receiving => receiving::row(fed),
+        Kind::Receiving => decoding::row(fed),
         Kind::Levels => levels::row(fed),
         Kind::Burst(call) => bursts::row(call, fed),
         Kind::LongBurst(call) => limits::row(call, fed),

@@ -1,18 +1,16 @@
 -- What the parts of a call come to together. Each law is stated over the parts' results, so that the functions' proofs stay small.
 use Prim.Native.Nat.{ℕ, _+_, min}
-use mathlib.Core.Path.{_≡_, ap, _∙_}
+use mathlib.Core.Path.{_≡_}
 use mathlib.Core.List.{List}
-use Rattle.code.specs.Registers.{historyBy}
+use Rattle.code.specs.Registers.{historyBy, movedOn}
 use Rattle.majority.specs.Voting.{decideBy}
-use Rattle.decoder.specs.Registers.{withSyndromes, correctedBy, takenOutBy, movedOn, fedBackBy}
-use Rattle.decoder.specs.Readings.{Yield, readByteOf, readFrameOf}
-use Rattle.decoder.specs.Answers.{Reply, frame}
-use Rattle.decoder.specs.Receive.{streamsOf, historyWith, placeOf, syndromesWith, withFrame, errorsOf, handingOf, receiveOf, receiveByteOf, receiveReadingsOf}
+use Rattle.decoder.specs.Registers.{withSyndromes, correctedBy, takenOutBy, fedBackBy}
+use Rattle.receiving.specs.Answers.{frame}
+use Rattle.decoder.specs.Receive.{historyWith, placeIn, syndromesWith, withFrame, errorsOf, handingOf}
 use Rattle.decoder.specs.declared.Session.{Session}
-use Rattle.decoder.specs.declared.Reading.{Reading}
 
 module _ (s : Session) {k p : ℕ} (ek : k ≡ min (s .card .k) 4) (ep : p ≡ min (s .card .p) 8) where
-  pub with-frame-is : (f : ℕ) {place : ℕ} {history syndromes : List ℕ} → place ≡ placeOf (s .received) (s .card .m) → history ≡ historyBy (s .history) k f
+  pub with-frame-is : (f : ℕ) {place : ℕ} {history syndromes : List ℕ} → place ≡ placeIn s → history ≡ historyBy (s .history) k f
       → syndromes ≡ withSyndromes (s .syndromes) (s .card .generators) history k p f place
       → record { card = s .card; history = history; syndromes = syndromes; received = s .received + 1 } ≡ withFrame s f
   unfolding withFrame syndromesWith historyWith
@@ -23,12 +21,3 @@ module _ (s : Session) {k p : ℕ} (ek : k ≡ min (s .card .k) 4) (ep : p ≡ m
       → record { answer = frame f; session = record { card = s .card; history = s .history; syndromes = syndromes; received = s .received } } ≡ handingOf s
   unfolding handingOf errorsOf fedBackBy
   handing-is ee ef et es = cc (ek, ep, ee, ef, et, es)
-
-module _ (s : Session) (number : ℕ) {n : ℕ} (en : n ≡ streamsOf (s .card .k) (s .card .p)) {y : Yield} {r : Reply} (er : r ≡ receiveOf s number y) where
-  pub byte-is : (f : ℕ) → y ≡ readByteOf f n → r ≡ receiveByteOf s number f
-  unfolding receiveByteOf
-  byte-is f ey = er ∙ ap (λ y. receiveOf s number y) (ey ∙ ap (λ n. readByteOf f n) en)
-
-  pub readings-are : (readings : List Reading) → y ≡ readFrameOf readings n → r ≡ receiveReadingsOf s number readings
-  unfolding receiveReadingsOf
-  readings-are readings ey = er ∙ ap (λ y. receiveOf s number y) (ey ∙ ap (λ n. readFrameOf readings n) en)

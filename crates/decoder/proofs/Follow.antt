@@ -1,175 +1,177 @@
--- Any list of calls on a session follows the rule: the answers to the calls that are taken are the rule's, and the registers hold its syndromes.
-use Prim.Native.Nat.{ℕ, suc, _+_, _-_, _≤_, _<_}
-use mathlib.Core.Path.{_≡_, refl, sym, ap, ap₂, _∙_}
-use mathlib.Core.Bool.{Bool, true, false, cond}
-use mathlib.Core.Logic.{⊎-elim}
-use mathlib.Core.List.{List, [], _∷_, _++_}
+-- A session follows the rule: what its registers hold before a frame and with it, and what it hands out.
+use Prim.Native.Nat.{ℕ, suc, _-_, _≤_, _<_, min}
+use mathlib.Core.Path.{_≡_, refl, sym, ap, _∙_}
+use mathlib.Core.List.{List}
 use native.Mathlib.Numerals.{add-one}
 use native.Mathlib.Omega.{arith}
-use lib.ListN.{length, getD, drop, length-drop, drop-of-length-le}
-use lib.Seq.{getD-drop, drop-drop}
+use lib.ListN.{length, getD, replicate}
+use lib.Count.{ones}
+use Rattle.bits.specs.Sums.{sumBelow}
 use Rattle.bits.specs.Digits.{bit}
-use Rattle.bits.proofs.Cases.{le-or-lt}
+use Rattle.bits.proofs.Sums.{sum-same}
+use Rattle.bits.proofs.Lists.{zeros-at}
+use Rattle.bits.proofs.Held.{held-in, held-out}
+use Rattle.bits.proofs.Digits.{bit-of-zero, ones-of-digits}
 use Rattle.code.specs.Code.{digit}
 use Rattle.code.specs.Guarantees.{Guarantees}
 use Rattle.code.specs.Registers.{historyBy}
 use Rattle.code.specs.declared.Card.{Card}
-use Rattle.code.proofs.Registers.{HistoryBefore, HistoryWith, history-later, history-next}
-use Rattle.majority.specs.Rule.{decideFrame, decided}
+use Rattle.code.proofs.Registers.{HistoryBefore, HistoryWith, history-start, history-later, history-next}
+use Rattle.majority.specs.Rule.{cleared, decideFrame, decided, decoded, figureBy}
 use Rattle.majority.specs.Voting.{decideBy}
-use Rattle.decoder.specs.Registers.{withSyndromes, correctedBy, fedBackBy}
-use Rattle.decoder.specs.Answers.{Given, waiting, frame, Reply}
-use Rattle.decoder.specs.Receive.{kOf, pOf, historyWith, placeOf, syndromesWith, withFrame, errorsOf, handingOf, takenOf, refusedOf}
-use Rattle.decoder.specs.Calls.{Call, replyOf, frameIn, taken, takenFrames, handedBy, handedOut, takenAnswers, sessionAfter, answersBy}
+use Rattle.majority.proofs.Streams.{decoded-length, decoded-at}
+use Rattle.majority.proofs.Theorem.{decoded-as-sent}
+use Rattle.receiving.specs.Answers.{frame, Reply}
+use Rattle.receiving.specs.Receive.{kOf, pOf, placeOf, openOf}
+use Rattle.receiving.specs.Calls.{Call, takenFrames, sessionAfter, answersBy}
+use Rattle.receiving.proofs.Follow.{Follows}
+use Rattle.receiving.proofs.Turns.{InTurn, in-turn}
+use Rattle.receiving.proofs.ByRule.{from-start, follows-rule}
+use Rattle.decoder.specs.Registers.{withSyndromes, correctedBy, fedBackBy, onesBy}
+use Rattle.decoder.specs.Receive.{historyWith, syndromesWith, withFrame, errorsOf, handingOf, takenOf, firstCircuit, linkFigureOf}
+use Rattle.decoder.specs.Claims.{Claims}
 use Rattle.decoder.specs.declared.Session.{Session}
 use Rattle.decoder.proofs.Step.{SyndromesAt, syndromes-next, decide-next, corrected-next, fed-next}
-use Rattle.decoder.proofs.Outcomes.{taken-waiting, taken-handing, outcome}
-use Rattle.decoder.proofs.Answers.{answers-length, first-waiting, then-frames, handedIn}
 
 -- the session with card c, these registers, and t frames received
-abbrev pub session : Card → List ℕ → List ℕ → ℕ → Session
+abbrev session : Card → List ℕ → List ℕ → ℕ → Session
 session c h y t = record { card = c; history = h; syndromes = y; received = t }
 
--- ---- one frame that is taken
-module _ (c : Card) (G : Guarantees c) (h y : List ℕ) (t f : ℕ) where
+-- ---- what is done with a frame
+module _ (c : Card) (G : Guarantees c) (h y : List ℕ) (n : ℕ) where
   k-is : kOf c ≡ c .k
   k-is = omega (arith, G .k-most)
 
   p-is : pOf c ≡ c .p
   p-is = omega (arith, G .n-most)
 
-  -- the registers with the frame
-  abbrev h′ : List ℕ
-  h′ = historyBy h (c .k) f
-
-  abbrev y′ : List ℕ
-  y′ = withSyndromes y (c .generators) (historyBy h (c .k) f) (c .k) (c .p) f (placeOf t (c .m))
-
-  with-frame : withFrame (session c h y t) f ≡ session c h′ y′ (suc t)
+  with-frame : (f : ℕ)
+      → withFrame (session c h y n) f
+      ≡ session c (historyBy h (c .k) f) (withSyndromes y (c .generators) (historyBy h (c .k) f) (c .k) (c .p) f (placeOf n (c .m))) (suc n)
   unfolding withFrame syndromesWith historyWith
-  with-frame = cc (k-is, p-is, add-one t)
+  with-frame f = cc (k-is, p-is, add-one n)
 
-  pub waits : t < c .m → takenOf (session c h y t) f ≡ record { answer = waiting; session = session c h′ y′ (suc t) }
-  waits l = taken-waiting (session c h y t) f l ∙ ap (λ (s : Session). record { answer = waiting; session = s }) with-frame
+  hands-out : (e : ℕ) → decideBy (c .counts) (c .checks) y (c .k) (c .p) ≡ e
+      → handingOf (session c h y n) ≡ record { answer = frame (correctedBy h e (c .k) (c .m)); session = session c h (fedBackBy y (c .generators) e (c .k) (c .p)) n }
+  unfolding handingOf errorsOf
+  hands-out e q = cc (k-is, p-is, q)
 
-  pub hands-out : (e : ℕ) → decideBy (c .counts) (c .checks) y′ (c .k) (c .p) ≡ e → c .m ≤ t
-      → takenOf (session c h y t) f
-      ≡ record { answer = frame (correctedBy h′ e (c .k) (c .m)); session = session c h′ (fedBackBy y′ (c .generators) e (c .k) (c .p)) (suc t) }
-  hands-out e q l = taken-handing (session c h y t) f l ∙ ap handingOf with-frame ∙ decided-as
-    where
-      decided-as : handingOf (session c h′ y′ (suc t))
-          ≡ record { answer = frame (correctedBy h′ e (c .k) (c .m)); session = session c h′ (fedBackBy y′ (c .generators) e (c .k) (c .p)) (suc t) }
-      decided-as = unfold handingOf errorsOf in cc (k-is, p-is, q)
+-- ---- the session before the frame of time t, and with it
+pub record Before (c : Card) (frames : List ℕ) (t : ℕ) (s : Session) : Type 0 where
+  pub history : List ℕ
+  pub syndromes : List ℕ
+  pub session-is : s ≡ session c history syndromes t
+  pub history-is : HistoryBefore c frames t history
+  pub syndromes-are : SyndromesAt c frames (t - c .m) t syndromes
 
--- ---- where the frames from time t on are f and then others
-module _ (frames : List ℕ) (t f : ℕ) (rest : List ℕ) (e : drop t frames ≡ f ∷ rest) where
-  frame-at : f ≡ getD frames t 0
-  frame-at =
-      let z : t + 0 ≡ t = omega arith in
-      sym (ap (λ (l : List ℕ). getD l 0 0) e) ∙ getD-drop t frames 0 0 ∙ ap (λ (x : ℕ). getD frames x 0) z
-
-  digits-at : (i : ℕ) → bit f i ≡ digit frames i t
-  unfolding digit
-  digits-at i = ap (λ (x : ℕ). bit x i) frame-at
-
-  rest-is : drop (suc t) frames ≡ rest
-  rest-is = ap (λ (x : ℕ). drop x frames) (sym (add-one t)) ∙ sym (drop-drop 1 t frames) ∙ ap (λ (l : List ℕ). drop 1 l) e
-
-  not-last : t < length frames
-  not-last = omega (arith, length-drop t frames, ap length e)
-
--- ---- any list of calls
-
--- what calls from time t on come to
-pub record Followed (c : Card) (frames : List ℕ) (t : ℕ) (s : Session) (calls : List Call) : Type 0 where
-  pub answers-are : takenAnswers s calls ≡ drop t (answersBy c frames)
-  pub handed-are : handedOut s calls ≡ handedIn (takenAnswers s calls)
-  pub last-history : List ℕ
-  pub last-syndromes : List ℕ
-  pub after-is : sessionAfter s calls ≡ session c last-history last-syndromes (length frames)
-  pub syndromes-are : SyndromesAt c frames (length frames - c .m) (length frames) last-syndromes
-
-module _ (c : Card) (frames : List ℕ) (call : Call) (calls : List Call) (t : ℕ) (s : Session) where
-  -- a call that is taken, and what the calls after it come to
-  after-taken : (s′ : Session) (g : Given) → taken s call ≡ true → replyOf s call ≡ record { answer = g; session = s′ }
-      → drop t (answersBy c frames) ≡ g ∷ drop (suc t) (answersBy c frames)
-      → Followed c frames (suc t) s′ calls → Followed c frames t s (call ∷ calls)
-  unfolding takenAnswers handedOut sessionAfter handedIn
-  after-taken s′ g q e a r =
-      let gs : takenAnswers s (call ∷ calls) ≡ g ∷ takenAnswers s′ calls =
-      ap₂ (λ (b : Bool) (x : Reply). cond b (x .answer ∷ []) [] ++ takenAnswers (x .session) calls) q e in
-      record {
-        answers-are = gs ∙ ap (λ (l : List Given). g ∷ l) (r .answers-are) ∙ sym a;
-        handed-are = ap (λ (x : Reply). handedBy (x .answer) ++ handedOut (x .session) calls) e ∙ ap (λ (l : List ℕ). handedBy g ++ l) (r .handed-are) ∙ sym (ap handedIn gs);
-        last-history = r .last-history;
-        last-syndromes = r .last-syndromes;
-        after-is = ap (λ (x : Reply). sessionAfter (x .session) calls) e ∙ r .after-is;
-        syndromes-are = r .syndromes-are;
-      }
-
-  -- a call that is refused
-  after-refused : (n : ℕ) → taken s call ≡ false → replyOf s call ≡ refusedOf s n → Followed c frames t s calls → Followed c frames t s (call ∷ calls)
-  unfolding takenAnswers handedOut sessionAfter handedIn handedBy refusedOf
-  after-refused n q e r =
-      let gs : takenAnswers s (call ∷ calls) ≡ takenAnswers s calls =
-      ap₂ (λ (b : Bool) (x : Reply). cond b (x .answer ∷ []) [] ++ takenAnswers (x .session) calls) q e in
-      record {
-        answers-are = gs ∙ r .answers-are;
-        handed-are = ap (λ (x : Reply). handedBy (x .answer) ++ handedOut (x .session) calls) e ∙ r .handed-are ∙ sym (ap handedIn gs);
-        last-history = r .last-history;
-        last-syndromes = r .last-syndromes;
-        after-is = ap (λ (x : Reply). sessionAfter (x .session) calls) e ∙ r .after-is;
-        syndromes-are = r .syndromes-are;
-      }
+pub record With (c : Card) (frames : List ℕ) (t : ℕ) (s : Session) : Type 0 where
+  pub history : List ℕ
+  pub syndromes : List ℕ
+  pub session-is : s ≡ session c history syndromes (suc t)
+  pub history-is : HistoryWith c frames t history
+  pub syndromes-are : SyndromesAt c frames (t - c .m) (suc t) syndromes
 
 module _ (c : Card) (G : Guarantees c) (frames : List ℕ) where
-  pub follow : (calls : List Call) (t : ℕ) (h y : List ℕ) → t ≤ length frames → HistoryBefore c frames t h → SyndromesAt c frames (t - c .m) t y
-      → drop t frames ≡ takenFrames (session c h y t) calls → Followed c frames t (session c h y t) calls
-  unfolding takenAnswers takenFrames handedOut sessionAfter handedIn refusedOf
-  follow [] t h y ht H Y e =
-      let n : t ≡ length frames = omega (arith, length-drop t frames, ap length e) in
+  comes-in : (t f : ℕ) (s : Session) → Before c frames t s → f ≡ getD frames t 0 → With c frames t (withFrame s f)
+  comes-in t f s B e =
+      let H = history-next c G frames t (B .history) f (λ i l. digits-at i) (B .history-is) in
       record {
-        answers-are = sym (drop-of-length-le (answersBy c frames) {i = t} (omega (arith, answers-length c frames)));
-        handed-are = refl;
-        last-history = h;
-        last-syndromes = y;
-        after-is = ap (λ (x : ℕ). session c h y x) n;
-        syndromes-are = rw n at Y;
+        history = historyBy (B .history) (c .k) f;
+        syndromes = withSyndromes (B .syndromes) (c .generators) (historyBy (B .history) (c .k) f) (c .k) (c .p) f (placeOf t (c .m));
+        session-is = ap (λ (s : Session). withFrame s f) (B .session-is) ∙ with-frame c G (B .history) (B .syndromes) t f;
+        history-is = H;
+        syndromes-are = syndromes-next c G frames t (t - c .m) refl _ H f e (B .syndromes) (B .syndromes-are);
       }
-  follow (call ∷ calls) t h y ht H Y e =
-      let s = session c h y t in
-      let f = frameIn (c .k + c .p) call in
+    where
+      digits-at : (i : ℕ) → bit f i ≡ digit frames i t
+      digits-at i = unfold digit in ap (λ (x : ℕ). bit x i) e
+
+  waits : (t : ℕ) (s : Session) → t < c .m → With c frames t s → Before c frames (suc t) s
+  waits t s l W =
+      let v : t - c .m ≡ suc t - c .m = omega arith in
+      record {
+        history = W .history;
+        syndromes = W .syndromes;
+        session-is = W .session-is;
+        history-is = history-later c frames t (W .history) (W .history-is);
+        syndromes-are = rw v at (W .syndromes-are);
+      }
+
+  hands : (t : ℕ) (s : Session) → c .m ≤ t → t < length frames → With c frames t s
+      → (handingOf s .answer ≡ frame (getD (decoded c frames) (t - c .m) 0)) × Before c frames (suc t) (handingOf s .session)
+  hands t s l ln W =
       let u = t - c .m in
-      ⊎-elim
-      (λ (w : (taken s call ≡ true) × (replyOf s call ≡ takenOf s f)).
-      let rest = takenFrames (takenOf s f .session) calls in
-      let e₀ : drop t frames ≡ f ∷ rest =
-      e ∙ ap₂ (λ (b : Bool) (x : Reply). cond b (f ∷ []) [] ++ takenFrames (x .session) calls) (w .0) (w .1) in
-      let hf : f ≡ getD frames t 0 = frame-at frames t f rest e₀ in
-      let e₁ : drop (suc t) frames ≡ rest = rest-is frames t f rest e₀ in
-      let hn : t < length frames = not-last frames t f rest e₀ in
-      let g = historyBy h (c .k) f in
-      let z = withSyndromes y (c .generators) g (c .k) (c .p) f (placeOf t (c .m)) in
-      let H′ : HistoryWith c frames t g = history-next c G frames t h f (λ i l. digits-at frames t f rest e₀ i) H in
-      let Y′ : SyndromesAt c frames u (suc t) z = syndromes-next c G frames t u refl g H′ f hf y Y in
-      ⊎-elim
-      (λ (l : c .m ≤ t).
-      let d = decideFrame c frames (decided c frames u) u in
-      let b = fedBackBy z (c .generators) d (c .k) (c .p) in
+      let h = W .history in
+      let y = W .syndromes in
+      let e = decideFrame c frames (decided c frames u) u in
       let v : suc u ≡ suc t - c .m = omega arith in
-      let r = hands-out c G h y t f d (decide-next c G frames t u refl l z Y′) l in
-      after-taken c frames call calls t s (session c g b (suc t)) (frame (correctedBy g d (c .k) (c .m))) (w .0) (w .1 ∙ r)
-      (then-frames c frames t hn l
-      ∙ ap (λ (x : ℕ). frame x ∷ drop (suc t) (answersBy c frames)) (sym (corrected-next c G frames t u refl l z Y′ g H′ (length frames - c .m) (omega arith))))
-      (follow calls (suc t) g b hn (history-later c frames t g H′) (rw v at (fed-next c G frames t u refl l z Y′)) (e₁ ∙ ap (λ (x : Reply). takenFrames (x .session) calls) r)))
-      (λ (l : t < c .m).
-      let v : u ≡ suc t - c .m = omega arith in
-      let r = waits c G h y t f l in
-      after-taken c frames call calls t s (session c g z (suc t)) waiting (w .0) (w .1 ∙ r) (first-waiting c frames t hn l)
-      (follow calls (suc t) g z hn (history-later c frames t g H′) (rw v at Y′) (e₁ ∙ ap (λ (x : Reply). takenFrames (x .session) calls) r)))
-      (le-or-lt (c .m) t))
-      (λ (w : (taken s call ≡ false) × (n : ℕ) × (replyOf s call ≡ refusedOf s n)).
-      after-refused c frames call calls t s (w .1) (w .0) (w .2)
-      (follow calls t h y ht H Y
-      (e ∙ ap₂ (λ (b : Bool) (x : Reply). cond b (f ∷ []) [] ++ takenFrames (x .session) calls) (w .0) (w .2))))
-      (outcome s G call)
+      let r = ap handingOf (W .session-is) ∙ hands-out c G h y (suc t) e (decide-next c G frames t u refl l y (W .syndromes-are)) in (
+        ap (λ (r : Reply Session). r .answer) r
+            ∙ ap frame (corrected-next c G frames t u refl l y (W .syndromes-are) h (W .history-is) (length frames - c .m) (omega arith) ∙ sym (decoded-at c frames u (omega arith))),
+        record {
+          history = h;
+          syndromes = fedBackBy y (c .generators) e (c .k) (c .p);
+          session-is = ap (λ (r : Reply Session). r .session) r;
+          history-is = history-later c frames t h (W .history-is);
+          syndromes-are = rw v at (fed-next c G frames t u refl l y (W .syndromes-are));
+        },
+      )
+
+  turns : InTurn firstCircuit decoded c frames
+  turns =
+      record {
+        Before = Before c frames;
+        With = With c frames;
+        with-frame = withFrame;
+        hand = handingOf;
+        takes = λ s f. unfold takenOf in refl;
+        card-is = λ t s B. ap (λ (s : Session). s .card) (B .session-is);
+        received-is = λ t s B. ap (λ (s : Session). s .received) (B .session-is);
+        comes-in = comes-in;
+        waits = waits;
+        hands = hands;
+      }
+
+  pub follows : Follows firstCircuit c frames (answersBy decoded c frames)
+  follows = in-turn firstCircuit decoded c frames (decoded-length c frames) turns
+
+  -- before the first frame no digit is held
+  pub start : follows .After 0 (openOf firstCircuit c)
+  unfolding openOf follows turns in-turn
+  start =
+      record {
+        history = replicate 4 0;
+        syndromes = replicate 8 0;
+        session-is = refl;
+        history-is = history-start c frames;
+        syndromes-are = λ j a hj.
+            ap (λ (x : ℕ). bit x a) (zeros-at 8 j) ∙ bit-of-zero a ∙ sym (held-out (λ v. cleared c frames (decided c frames (0 - c .m)) v j) (0 - c .m) 0 a (omega arith));
+      }
+
+-- ---- what holds of an opened session
+module _ (c : Card) (G : Guarantees c) where
+  figure-follows : (calls : List Call)
+      → linkFigureOf (sessionAfter firstCircuit (openOf firstCircuit c) calls) ≡ figureBy c (takenFrames firstCircuit (openOf firstCircuit c) calls)
+  unfolding linkFigureOf onesBy figureBy follows turns in-turn
+  figure-follows calls =
+      let frames = takenFrames firstCircuit (openOf firstCircuit c) calls in
+      let t = length frames in
+      let u = t - c .m in
+      let errors = decided c frames u in
+      let r : Before c frames t (sessionAfter firstCircuit (openOf firstCircuit c) calls) =
+      from-start firstCircuit decoded c G (openOf firstCircuit c) (decoded-length c) (follows c G) (start c G) calls .last in
+      let y = r .syndromes in
+      let p-most : min (c .p) 8 ≡ c .p = omega (arith, G .n-most) in
+      ap linkFigureOf (r .session-is)
+      ∙ ap (λ (n : ℕ). sumBelow n (λ j. ones (getD y j 0))) p-most
+      ∙ sum-same (c .p) _ _
+      (λ j l.
+      ones-of-digits (t - u) (getD y j 0) (λ a w. r .syndromes-are j a l ∙ held-out (λ v. cleared c frames errors v j) u t a (omega arith))
+      ∙ sum-same (t - u) _ _ (λ a w. r .syndromes-are j a l ∙ held-in (λ v. cleared c frames errors v j) u t a (omega arith)))
+
+  pub claims-of : Claims c (openOf firstCircuit c)
+  claims-of =
+      record {
+        by-rule = follows-rule firstCircuit decoded c G (openOf firstCircuit c) (decoded-length c) (follows c G) (start c G) (decoded-as-sent c G);
+        figure-by-rule = figure-follows;
+      }

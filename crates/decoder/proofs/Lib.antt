@@ -1,10 +1,4 @@
 pub mod Step
-pub mod Bounds
-pub mod Yields
 pub mod Composed
-pub mod Outcomes
-pub mod Answers
 pub mod Follow
-pub mod ByRule
-pub mod Opening
 pub mod Example

@@ -1,61 +1,42 @@
 -- One frame: the registers hold the rule's cleared syndromes before it, with it, and once its errors are fed back.
 -- The whole list of received frames is fixed; the frame of time t comes in, and that of time u = t - m, if there is one, is decided.
-use Prim.Native.Nat.{ℕ, suc, _+_, _-_, _*_, _/_, _%_, _^_, _≤_, _<_}
+use Prim.Native.Nat.{ℕ, suc, _+_, _-_, _*_, _/_, _%_, _≤_, _<_}
 use mathlib.Core.Path.{_≡_, sym, ap, ap₂, _∙_}
-use mathlib.Core.Bool.{cond}
 use mathlib.Core.Logic.{⊎-elim}
 use mathlib.Core.List.{List, [], _∷_, _++_}
-use native.Mathlib.Nat.{eq-or-lt-of-le, zero-mul}
+use native.Mathlib.Nat.{zero-mul}
 use native.Mathlib.Omega.{arith}
 use lib.ListN.{length, getD, replicate}
-use lib.Dec.{ltb}
 use lib.Bits.{bitXor}
-use borrow.Author.Tests.{lt-ltb, le-ltb}
-use Rattle.bits.specs.Sums.{sumBelow}
+use Rattle.bits.specs.Sums.{sumBelow, grown}
 use Rattle.bits.specs.Digits.{bit, shiftUp}
 use Rattle.bits.proofs.Cases.{le-or-lt}
 use Rattle.bits.proofs.Sums.{sum-same, sum-none}
 use Rattle.bits.proofs.Lists.{upTo-at, part-at}
 use Rattle.bits.proofs.Back.{back-in}
-use Rattle.bits.proofs.Digits.{bit-lt, bit-suc, bit-high, bit-xor, bit-masks, place-same, place-other, from-digits-same}
-use Rattle.bits.proofs.Words.{shift-digit}
+use Rattle.bits.proofs.Held.{held, held-in, held-out, put-in}
+use Rattle.bits.proofs.Digits.{bit-lt, bit-suc, bit-high, bit-xor, bit-masks, from-digits-same}
 use Rattle.code.specs.Code.{generator, digit}
 use Rattle.code.specs.Guarantees.{Guarantees}
-use Rattle.code.specs.Registers.{generatorMask}
+use Rattle.code.specs.Registers.{generatorMask, movedOn}
 use Rattle.code.specs.declared.Card.{Card}
 use Rattle.code.proofs.Registers.{in-table}
 use Rattle.code.proofs.Registers.{HistoryWith, parity-next}
 use Rattle.majority.specs.Rule.{syndrome, cleared, decideFrame, decided, corrected}
-use Rattle.decoder.specs.Registers.{syndromeBy, withSyndromes, correctedDigit, correctedBy, feedbackBy, clearedBy, takenOutBy, movedOn, fedBackBy}
-use Rattle.decoder.specs.Receive.{placeOf}
+use Rattle.decoder.specs.Registers.{syndromeBy, withSyndromes, correctedDigit, correctedBy, feedbackBy, clearedBy, takenOutBy, fedBackBy}
+use Rattle.receiving.specs.Receive.{placeOf}
 use Rattle.majority.specs.Voting.{decideBy}
 use Rattle.majority.proofs.Voting.{decide-is}
 use Rattle.majority.proofs.Streams.{decided-length, decided-at}
-use Rattle.majority.proofs.Feedback.{cleared-lt, syndrome-lt, cleared-new, cleared-fed}
-
--- digit a of syndrome register j after n frames: the syndrome of time u + a, with these errors taken out, if that frame was received
-unfoldable pub held : Card → List ℕ → List ℕ → ℕ → ℕ → ℕ → ℕ → ℕ
-held c frames errors u n j a = cond (ltb (u + a) n) (cleared c frames errors (u + a) j) 0
-
-module _ (c : Card) (frames errors : List ℕ) (u n j a : ℕ) where
-  pub held-in : u + a < n → held c frames errors u n j a ≡ cleared c frames errors (u + a) j
-  unfolding held
-  held-in h = rw (lt-ltb (u + a) n h)
-
-  pub held-out : n ≤ u + a → held c frames errors u n j a ≡ 0
-  unfolding held
-  held-out h = rw (le-ltb (u + a) n h)
+use Rattle.majority.proofs.Feedback.{syndrome-lt, cleared-new, cleared-fed}
 
 -- the registers hold the syndromes of times u to n - 1, with the errors decided before u taken out
 abbrev pub SyndromesAt : Card → List ℕ → ℕ → ℕ → List ℕ → Type 0
-SyndromesAt c frames u n y = (j a : ℕ) → j < c .p → bit (getD y j 0) a ≡ held c frames (decided c frames u) u n j a
+SyndromesAt c frames u n y = (j a : ℕ) → j < c .p → bit (getD y j 0) a ≡ held (λ v. cleared c frames (decided c frames u) v j) u n a
 
 -- a digit added where there was none
 alone-left : {x y v : ℕ} → x ≡ v → y ≡ 0 → v < 2 → (x + y) % 2 ≡ v
 alone-left e q h = omega arith
-
-alone-right : {x y v : ℕ} → x ≡ 0 → y ≡ v → v < 2 → (x + y) % 2 ≡ v
-alone-right e q h = omega arith
 
 module _ (c : Card) (G : Guarantees c) (frames : List ℕ) (t u : ℕ) (hu : u ≡ t - c .m) where
   -- ---- the frame comes in
@@ -68,39 +49,19 @@ module _ (c : Card) (G : Guarantees c) (frames : List ℕ) (t u : ℕ) (hu : u �
     unfolding withSyndromes
     syndromes-next y Y j a hj =
         let errors = decided c frames u in
-        let d = syndrome c frames t j in
-        let b = placeOf t (c .m) in
-        let hd : d < 2 = syndrome-lt c frames t j in
+        let new = cleared-new c frames errors t j (omega (arith, decided-length c frames u)) in
         ap (λ (x : ℕ). bit x a)
-        (part-at (λ i. bitXor (getD y i 0) (shiftUp (syndromeBy (c .generators) h (c .k) f i) b)) (replicate 8 0) (c .p) j hj
-        ∙ ap (λ (x : ℕ). bitXor (getD y j 0) (shiftUp x b)) (syndrome-next j hj)
-        ∙ ap (λ (x : ℕ). bitXor (getD y j 0) x) (shift-digit d b hd (omega (arith, G .m-most))))
-        ∙ bit-xor (getD y j 0) (d * 2 ^ b) a
-        ∙ ⊎-elim
-        (λ (l : u + a ≤ t).
-        ⊎-elim
-        (λ (q : u + a ≡ t).
-        alone-right (Y j a hj ∙ held-out c frames errors u t j a (omega arith)) (at-place a d hd (omega arith)) hd
-        ∙ sym (cleared-new c frames errors t j (omega (arith, decided-length c frames u))) ∙ ap (λ (x : ℕ). cleared c frames errors x j) (sym q))
-        (λ (q : u + a < t).
-        alone-left (Y j a hj ∙ held-in c frames errors u t j a q) (place-other d b a hd (λ e. absurd (omega arith))) (cleared-lt c frames errors (u + a) j))
-        (eq-or-lt-of-le l)
-        ∙ sym (held-in c frames errors u (suc t) j a (omega arith)))
-        (λ (l : t < u + a).
-        alone-left (Y j a hj ∙ held-out c frames errors u t j a (omega arith)) (place-other d b a hd (λ e. absurd (omega arith))) (omega arith)
-        ∙ sym (held-out c frames errors u (suc t) j a (omega arith)))
-        (le-or-lt (u + a) t)
-      where
-        at-place : (a d : ℕ) → d < 2 → a ≡ placeOf t (c .m) → bit (d * 2 ^ placeOf t (c .m)) a ≡ d
-        at-place a d l e = ap (λ (x : ℕ). bit (d * 2 ^ placeOf t (c .m)) x) e ∙ place-same d (placeOf t (c .m)) l
+        (part-at (λ i. bitXor (getD y i 0) (shiftUp (syndromeBy (c .generators) h (c .k) f i) (placeOf t (c .m)))) (replicate 8 0) (c .p) j hj)
+        ∙ put-in (λ v. cleared c frames errors v j) u t (getD y j 0) (λ b. Y j b hj) (syndromeBy (c .generators) h (c .k) f j) (placeOf t (c .m))
+        (syndrome-next j hj ∙ sym new) (rw (syndrome-next j hj) (syndrome-lt c frames t j)) (omega arith) (omega (arith, G .m-most)) a
 
   -- ---- the frame of time u is decided
   module _ (hm : c .m ≤ t) (y : List ℕ) (Y : SyndromesAt c frames u (suc t) y) where
     pub decide-next : decideBy (c .counts) (c .checks) y (c .k) (c .p) ≡ decideFrame c frames (decided c frames u) u
     decide-next =
         let errors = decided c frames u in
-        decide-is c G frames errors u y (λ j a hj l. Y j a hj ∙ held-in c frames errors u (suc t) j a (omega arith))
-        (λ j a hj l. Y j a hj ∙ held-out c frames errors u (suc t) j a (omega arith))
+        decide-is c G frames errors u y (λ j a hj l. Y j a hj ∙ held-in (λ v. cleared c frames errors v j) u (suc t) a (omega arith))
+        (λ j a hj l. Y j a hj ∙ held-out (λ v. cleared c frames errors v j) u (suc t) a (omega arith))
 
     -- the frame handed out is the rule's, whatever is decided later
     pub corrected-next : (h : List ℕ) → HistoryWith c frames t h → (n : ℕ) → u < n
@@ -123,7 +84,7 @@ module _ (c : Card) (G : Guarantees c) (frames : List ℕ) (t u : ℕ) (hu : u �
 
     -- the decided errors taken out, and the registers moved on
     pub fed-next : SyndromesAt c frames (suc u) (suc t) (fedBackBy y (c .generators) (decideFrame c frames (decided c frames u) u) (c .k) (c .p))
-    unfolding fedBackBy takenOutBy clearedBy movedOn decided
+    unfolding fedBackBy takenOutBy clearedBy movedOn decided grown
     fed-next j a hj =
         let errors = decided c frames u in
         let e = decideFrame c frames errors u in
@@ -134,18 +95,18 @@ module _ (c : Card) (G : Guarantees c) (frames : List ℕ) (t u : ℕ) (hu : u �
         ∙ ap (λ (w : ℕ). bit w (suc a)) (part-at (clearedBy y (c .generators) e (c .k)) (replicate 8 0) (c .p) j hj)
         ∙ bit-xor x (feedbackBy (c .generators) e (c .k) j) (suc a)
         ∙ ap₂ (λ (v w : ℕ). (v + w) % 2) (Y j (suc a) hj) (fed e j (suc a) hj)
-        ∙ mod-right (held c frames errors u (suc t) j (suc a)) z
+        ∙ mod-right (held (λ v. cleared c frames errors v j) u (suc t) (suc a)) z
         ∙ ⊎-elim
         (λ (l : t < suc u + a).
-        alone-left (held-out c frames errors u (suc t) j (suc a) (omega arith)) (none e a (omega arith)) (omega arith)
-        ∙ sym (held-out c frames (errors ++ (e ∷ [])) (suc u) (suc t) j a l))
+        alone-left (held-out (λ v. cleared c frames errors v j) u (suc t) (suc a) (omega arith)) (none e a (omega arith)) (omega arith)
+        ∙ sym (held-out (λ v. cleared c frames (errors ++ (e ∷ [])) v j) (suc u) (suc t) a l))
         (λ (l : suc u + a < suc t).
         let q : u + suc a ≡ suc u + a = omega arith in
         let r : suc u + a - length errors ≡ suc a = omega (arith, decided-length c frames u) in
-        ap (λ (v : ℕ). (v + z) % 2) (held-in c frames errors u (suc t) j (suc a) (omega arith) ∙ ap (λ (v : ℕ). cleared c frames errors v j) q)
+        ap (λ (v : ℕ). (v + z) % 2) (held-in (λ v. cleared c frames errors v j) u (suc t) (suc a) (omega arith) ∙ ap (λ (v : ℕ). cleared c frames errors v j) q)
         ∙ ap (λ (b : ℕ). (cleared c frames errors (suc u + a) j + sumBelow (c .k) (λ i. generator c i j b * bit e i)) % 2) (sym r)
         ∙ sym (cleared-fed errors e (suc u + a) (omega (arith, decided-length c frames u)) c j (omega (arith, decided-length c frames u)) frames)
-        ∙ sym (held-in c frames (errors ++ (e ∷ [])) (suc u) (suc t) j a l))
+        ∙ sym (held-in (λ v. cleared c frames (errors ++ (e ∷ [])) v j) (suc u) (suc t) a l))
         (le-or-lt (suc t) (suc u + a))
       where
         mod-right : (x y : ℕ) → (x + y % 2) % 2 ≡ (x + y) % 2

@@ -1,8 +1,5 @@
-pub mod Readings
-pub mod Answers
 pub mod Registers
 pub mod Receive
-pub mod Calls
 pub mod Claims
 pub mod Opening
 pub mod Example

@@ -1,38 +1,18 @@
--- What opening a receiving session with a card's bytes comes to, and what holds of the session: document 01, "The card" and "Refused because of
--- the state".
+-- What the calls of a session promise, in the published numbers: what opening comes to, and what a call hands back.
 -- Assumes nothing.
 use Prim.Native.Nat.{ℕ}
-use mathlib.Core.Path.{_≡_}
 use mathlib.Core.List.{List}
-use Rattle.card.specs.Fields.{emptyCard}
-use Rattle.card.specs.Outcome.{Outcome, accepted, refused, outcomeOf}
-use Rattle.card.specs.Reading.{readCard}
-use Rattle.code.specs.Code.{mostFrames}
-use Rattle.code.specs.declared.Card.{Card}
-use Rattle.decoder.specs.Calls.{Call, numberIn, replyOf}
+use Rattle.card.specs.Outcome.{outcomeOf}
+use Rattle.receiving.specs.Answers.{answerOf, Reply}
+use Rattle.receiving.specs.Opening.{Opens}
 use Rattle.decoder.specs.Claims.{Claims}
-use Rattle.decoder.specs.Receive.{freshOf, openOf, refusedOf}
+use Rattle.decoder.specs.Receive.{firstCircuit}
 use Rattle.decoder.specs.declared.Opened.{Opened}
+use Rattle.decoder.specs.declared.Received.{Received}
 use Rattle.decoder.specs.declared.Session.{Session}
 
--- the session of a refused opening: the empty card, and no room for a frame
-unfoldable pub closed : Session
-closed = freshOf emptyCard mostFrames
+abbrev pub OpenPromise : List ℕ → Opened → Type 0
+OpenPromise bytes r = Opens firstCircuit Claims bytes (outcomeOf (r .verdict)) (r .session)
 
--- the session that reading a card leads to
-unfoldable pub sessionFor : Outcome → Card → Session
-sessionFor accepted c = openOf c
-sessionFor (refused n offset) c = closed
-
--- every call is refused, and hands the session back as it was
-pub record Closed (s : Session) : Type 0 where
-  pub other-refused : (call : Call) → (numberIn call ≡ s .card .number → ⊥) → replyOf s call ≡ refusedOf s 14
-  pub own-refused : (call : Call) → numberIn call ≡ s .card .number → replyOf s call ≡ refusedOf s 15
-
-pub record OpenPromise (bytes : List ℕ) (r : Opened) : Type 0 where
-  -- the verdict of card reading, its number and offset, for every slice
-  pub verdict-is : outcomeOf (r .verdict) ≡ readCard bytes .outcome
-  pub session-is : r .session ≡ sessionFor (readCard bytes .outcome) (readCard bytes .card)
-  -- with an accepted card any list of calls follows the rule, and a correctable stream comes out as sent
-  pub claims : outcomeOf (r .verdict) ≡ accepted → Claims (readCard bytes .card) (r .session)
-  pub shut : (n offset : ℕ) → outcomeOf (r .verdict) ≡ refused n offset → Closed (r .session)
+abbrev pub receivedOf : Received → Reply Session
+receivedOf r = record { answer = answerOf (r .answer); session = r .session }

@@ -2,14 +2,14 @@
 -- in proofs/Step.antt tie it to the rule of document 01 (`Rule`).
 -- Digit a of syndrome register j is the syndrome of parity stream j at u + a, where the frame of time u is decided next.
 -- Assumes nothing.
-use Prim.Native.Nat.{ℕ, _+_, _*_, _/_, _%_}
+use Prim.Native.Nat.{ℕ, _+_, _*_, _%_}
 use mathlib.Core.List.{List, _++_}
 use lib.ListN.{getD, drop, replicate}
 use lib.Bits.{bitXor}
 use lib.Count.{ones}
 use Rattle.bits.specs.Sums.{sumBelow, xorBelow, upTo}
 use Rattle.bits.specs.Digits.{bit, fromDigits, shiftUp}
-use Rattle.code.specs.Registers.{generatorMask, parityBy}
+use Rattle.code.specs.Registers.{generatorMask, parityBy, movedOn}
 
 -- the syndrome of parity stream j for a frame that the history registers h have already
 unfoldable pub syndromeBy : List ℕ → List ℕ → ℕ → ℕ → ℕ → ℕ
@@ -38,10 +38,6 @@ clearedBy y g e k j = bitXor (getD y j 0) (feedbackBy g e k j)
 -- the syndrome registers with the decided errors e taken out
 unfoldable pub takenOutBy : List ℕ → List ℕ → ℕ → ℕ → ℕ → List ℕ
 takenOutBy y g e k p = upTo p (clearedBy y g e k) ++ drop p (replicate 8 0)
-
--- the syndrome registers for the next frame, every digit a place further
-unfoldable pub movedOn : List ℕ → List ℕ
-movedOn y = upTo 8 (λ j. getD y j 0 / 2)
 
 -- the decided errors e fed back
 unfoldable pub fedBackBy : List ℕ → List ℕ → ℕ → ℕ → ℕ → List ℕ

@@ -1,20 +1,20 @@
 // The receiving session: frames in, frames out, by Massey's majority rule with feedback.
-mod readings;
 mod registers;
 
 use card::Refusal;
 use card::Verdict;
 use code::Card;
-use code::MOST_FRAMES;
-use readings::ReadFrame;
+use receiving::Answer;
+use receiving::ReadFrame;
+use receiving::Reading;
 ghost use mathlib.Core.Path.{_≡_};
 ghost use Prim.Native.Nat.{_<_};
 ghost use Rattle.card.specs.Refusals.{numberOf};
 ghost use Rattle.code.specs.Code.{mostFrames};
-ghost use Rattle.decoder.specs.Answers.{receivedOf};
-ghost use Rattle.decoder.specs.Opening.{OpenPromise};
-ghost use Rattle.decoder.specs.Readings.{frameYieldOf};
-ghost use Rattle.decoder.specs.Receive.{freshOf, streamsOf, refusedOf, withFrame, handingOf, takenOf, receiveOf, receiveByteOf, receiveReadingsOf, linkFigureOf};
+ghost use Rattle.receiving.specs.Readings.{frameYieldOf};
+ghost use Rattle.receiving.specs.Receive.{refusedOf, receiveOf, receiveByteOf, receiveReadingsOf};
+ghost use Rattle.decoder.specs.Opening.{OpenPromise, receivedOf};
+ghost use Rattle.decoder.specs.Receive.{freshOf, withFrame, handingOf, takenOf, firstCircuit, linkFigureOf};
 
 // What a session holds between two calls.
 pub struct Session {
@@ -22,19 +22,6 @@ pub struct Session {
     pub history: [u32; 4], // bit a of register i: information digit i of the frame a before the last one received
     pub syndromes: [u32; 8], // bit a of register j: the syndrome of parity stream j, a after the frame that is decided next
     pub received: u32, // how many frames were taken
-}
-
-// A level, or the mark 'erased'.
-pub enum Reading {
-    Level(f32),
-    Erased,
-}
-
-// What a receiving call answers.
-pub enum Answer {
-    Waiting,
-    Frame(u8),
-    Refused(Refusal),
 }
 
 // The answer, and the session for the next call.
@@ -61,33 +48,14 @@ fn fresh(card: Card, received: u32) -> Session
     }
 }
 
-// Reads the card. A refused opening hands out a session with the empty card and no room left, so that it refuses every call.
+// Reads the card. A refused opening hands out a session with the empty card that refuses every call.
 pub fn open(card: &[u8]) -> Opened
     ensures { λ r. ⌜ OpenPromise (now (card .entry)) r ⌝ }
 {
     let read = card::read_card(card);
     let verdict = read.verdict;
-    let card = read.card;
-    match verdict {
-        Verdict::Accepted => {
-            let session = fresh(card, 0);
-            Opened { verdict, session }
-        }
-        Verdict::Refused {
-            refusal: _,
-            offset: _,
-        } => {
-            let session = fresh(card, MOST_FRAMES as u32);
-            Opened { verdict, session }
-        }
-    }
-}
-
-// n, held to the digits of a byte.
-fn stream_count(k: usize, p: usize) -> usize
-    ensures { λ r. ⌜ r ≡ streamsOf k p ⌝ }
-{
-    bits::at_most(bits::at_most(k, 4) + bits::at_most(p, 8), 8)
+    let session = fresh(read.card, receiving::frames_at_opening(verdict));
+    Opened { verdict, session }
 }
 
 // A refused call hands back the session as it was.
@@ -143,7 +111,7 @@ fn hand_out(s: Session) -> Received
     let errors = majority::decide(&card.counts, &card.checks, &held, k, p);
     let frame = registers::corrected(&history, errors, k, card.m);
     let cleared = registers::taken_out(&held, &card.generators, errors, k, p);
-    let syndromes = registers::moved_on(&cleared);
+    let syndromes = code::moved_on(&cleared);
     Received {
         answer: Answer::Frame(frame),
         session: Session {
@@ -173,20 +141,13 @@ fn take(s: Session, frame: u8) -> Received
     hand_out(next)
 }
 
-// A frame, or its refusal, under a card number: refused by 14, then 15, then its own refusal, or taken.
+// A frame, or its own refusal, under a card number: taken or refused.
 fn receive(s: Session, number: u8, read: ReadFrame) -> Received
-    ensures { λ r. ⌜ receivedOf r ≡ receiveOf s number (frameYieldOf read) ⌝ }
+    ensures { λ r. ⌜ receivedOf r ≡ receiveOf firstCircuit s number (frameYieldOf read) ⌝ }
 {
     let card = s.card;
-    let own = card.number;
-    if number != own {
-        return refused(s, Refusal::OtherCardNumber);
-    }
-    let received = s.received;
-    if MOST_FRAMES <= received as usize {
-        return refused(s, Refusal::TooManyFrames);
-    }
-    match read {
+    let admitted = receiving::admit(card.number, s.received, number, read);
+    match admitted {
         ReadFrame::Frame(frame) => take(s, frame),
         ReadFrame::Refused(refusal) => refused(s, refusal),
     }
@@ -194,19 +155,19 @@ fn receive(s: Session, number: u8, read: ReadFrame) -> Received
 
 // Receives a frame as a byte, sent under a card number.
 pub fn receive_byte(s: Session, number: u8, frame: u8) -> Received
-    ensures { λ r. ⌜ receivedOf r ≡ receiveByteOf s number frame ⌝ }
+    ensures { λ r. ⌜ receivedOf r ≡ receiveByteOf firstCircuit s number frame ⌝ }
 {
     let card = s.card;
-    let read = readings::read_byte(frame, stream_count(card.k, card.p));
+    let read = receiving::read_byte(frame, card.k, card.p);
     receive(s, number, read)
 }
 
 // Receives a frame as eight readings, sent under a card number. Readings after the n-th are not looked at.
 pub fn receive_readings(s: Session, number: u8, readings: [Reading; 8]) -> Received
-    ensures { λ r. ⌜ receivedOf r ≡ receiveReadingsOf s number readings ⌝ }
+    ensures { λ r. ⌜ receivedOf r ≡ receiveReadingsOf firstCircuit s number readings ⌝ }
 {
     let card = s.card;
-    let read = readings::read_frame(readings, stream_count(card.k, card.p));
+    let read = receiving::read_frame(readings, card.k, card.p);
     receive(s, number, read)
 }
 

@@ -2,7 +2,7 @@
 // time u is decided next, with the errors decided before u taken out.
 ghost use mathlib.Core.Path.{_≡_};
 ghost use Prim.Native.Nat.{_<_, _≤_};
-ghost use Rattle.decoder.specs.Registers.{syndromeBy, withSyndromes, correctedBy, feedbackBy, takenOutBy, movedOn, onesBy};
+ghost use Rattle.decoder.specs.Registers.{syndromeBy, withSyndromes, correctedBy, feedbackBy, takenOutBy, onesBy};
 
 // The syndrome of parity stream j: its digit in the frame, plus the parity of the information digits in the history registers.
 fn syndrome(generators: &[u32; 32], history: &[u32; 4], k: usize, frame: u32, j: usize) -> u32
@@ -79,19 +79,6 @@ pub(crate) fn taken_out(
     while j < p {
         let change = feedback(generators, errors, k, j);
         next[j] = bits::word(held, j) ^ change;
-        j += 1;
-    }
-    next
-}
-
-// The syndrome registers for the next frame, every digit a place further.
-pub(crate) fn moved_on(held: &[u32; 8]) -> [u32; 8]
-    ensures { λ r. ⌜ r ≡ movedOn (now (held .entry)) ⌝ }
-{
-    let mut next = [0u32; 8];
-    let mut j = 0;
-    while j < 8 {
-        next[j] = bits::word(held, j) >> 1;
         j += 1;
     }
     next

@@ -1,49 +1,30 @@
-use mathlib.Core.Path.{ap}
+use mathlib.Core.Path.{refl}
 use borrow.Author.Needs.{needs}
-use Rattle.card.specs.Outcome.{outcomeOf}
-use Rattle.decoder.proofs.Opening.{opened-accepted, opened-refused}
+use Rattle.receiving.proofs.Opening.{opens}
+use Rattle.decoder.specs.Claims.{Claims}
+use Rattle.decoder.specs.Receive.{firstCircuit}
+use Rattle.decoder.proofs.Follow.{claims-of}
 use Rattle.decoder.proofs.open.Statement.{statement}
 use Rattle.decoder.proofs.open.Tie as tie
 
 read-card-requires : tie.Need-read-card-requires
 read-card-requires c κs = search needs
 
-enum-told : tie.Need-enum-told
-enum-told c = search needs
+frames-at-opening-requires : tie.Need-frames-at-opening-requires
+frames-at-opening-requires c κs = search needs
 
 fresh-requires : tie.Need-fresh-requires
 fresh-requires c κs = search needs
 
-enum-told-2 : tie.Need-enum-told-2
-enum-told-2 c = search needs
-
-cast-fresh : tie.Need-cast-fresh
-cast-fresh c = search needs
-
-fresh-requires-2 : tie.Need-fresh-requires-2
-fresh-requires-2 c κs = search needs
-
 returns : tie.Need-returns
 returns c =
-    let a = c .before .before .before .before .before .before .args in
-    let read = c .before .before .before .before .read-card in
-    opened-accepted (a .card .now) (read .result) (read .ensures) (c .fresh .result) (ap outcomeOf (c .before .enum-told .given .1)) (c .fresh .ensures)
-
-returns-2 : tie.Need-returns-2
-returns-2 c =
-    let a = c .before .before .before .before .before .before .args in
-    let read = c .before .before .before .before .read-card in
-    opened-refused (a .card .now) (read .result) (read .ensures) (c .fresh2 .result) (ap outcomeOf (c .before .enum-told2 .given .1)) (c .fresh2 .ensures)
+    opens firstCircuit Claims (λ card n. refl) claims-of _ (c .before .before .read-card .result) (c .before .before .read-card .ensures) _ _ (c .before .frames-at-opening .ensures) (c .fresh .ensures)
 
 pub open-spec : {M : Type 1} → statement M
 open-spec =
     tie.close
     (tie.spec
     read-card-requires
-    enum-told
+    frames-at-opening-requires
     fresh-requires
-    enum-told-2
-    cast-fresh
-    fresh-requires-2
-    returns
-    returns-2)
+    returns)

@@ -6,10 +6,9 @@ use native.Mathlib.Omega.{arith}
 use lib.Bits.{bitXor, xor-lt}
 use Rattle.bits.specs.Sums.{xorBelow}
 use Rattle.bits.specs.Digits.{bit}
-use Rattle.bits.proofs.Words.{xor-more}
+use Rattle.bits.proofs.Words.{xor-more, mask-times-lt}
 use Rattle.code.specs.Registers.{generatorMask}
 use Rattle.decoder.specs.Registers.{feedbackBy}
-use Rattle.decoder.proofs.Bounds.{mask-times-lt}
 use Rattle.decoder.proofs.registers.feedback.Statement.{statement}
 use Rattle.decoder.proofs.registers.feedback.Tie as tie
 

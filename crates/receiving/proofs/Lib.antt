@@ -1,0 +1,10 @@
+-- frames as they come
+pub mod Yields
+-- lists of calls
+pub mod Outcomes
+pub mod Answers
+pub mod Follow
+pub mod Turns
+pub mod ByRule
+pub mod Opening
+pub mod Example

@@ -1,0 +1,7 @@
+pub mod Readings
+pub mod Answers
+pub mod Receive
+pub mod Calls
+pub mod Claims
+pub mod Opening
+pub mod Example

@@ -1,0 +1,133 @@
+// What the receiving sessions have in common: frames as they come, bytes or readings, the refusals that a call meets, in their order, and the
+// answers. What holds of any list of calls, whatever the session is, stands in specs/Calls.antt and specs/Claims.antt.
+use card::Refusal;
+use card::Verdict;
+use code::MOST_FRAMES;
+ghost use mathlib.Core.Path.{_≡_};
+ghost use Prim.Native.Nat.{_≤_};
+ghost use Rattle.card.specs.Outcome.{outcomeOf};
+ghost use Rattle.receiving.specs.Opening.{countedAt};
+ghost use Rattle.receiving.specs.Readings.{streamsOf, yieldOf, frameYieldOf, digitOf, readByteOf, readFrameOf};
+ghost use Rattle.receiving.specs.Receive.{admitOf};
+
+// A level, or the mark 'erased'.
+pub enum Reading {
+    Level(f32),
+    Erased,
+}
+
+// What a receiving call answers.
+pub enum Answer {
+    Waiting,
+    Frame(u8),
+    Refused(Refusal),
+}
+
+// What a reading yields.
+enum ReadDigit {
+    Digit(u32),
+    Refused(Refusal),
+}
+
+// What a frame yields, as it came.
+pub enum ReadFrame {
+    Frame(u8),
+    Refused(Refusal),
+}
+
+// How many frames a session counts as received when it is opened. A refused card leaves no room for any, so that every call is refused.
+pub fn frames_at_opening(verdict: Verdict) -> u32
+    ensures { λ r. ⌜ r ≡ countedAt (outcomeOf verdict) ⌝ }
+{
+    match verdict {
+        Verdict::Accepted => 0,
+        Verdict::Refused {
+            refusal: _,
+            offset: _,
+        } => MOST_FRAMES as u32,
+    }
+}
+
+// n, held to the digits of a byte.
+pub fn stream_count(k: usize, p: usize) -> usize
+    ensures { λ r. ⌜ r ≡ streamsOf k p ⌝ }
+{
+    bits::at_most(bits::at_most(k, 4) + bits::at_most(p, 8), 8)
+}
+
+// A byte is its frame, unless it has a digit beyond its streams.
+pub fn read_byte(frame: u8, k: usize, p: usize) -> ReadFrame
+    ensures { λ r. ⌜ frameYieldOf r ≡ readByteOf frame (streamsOf k p) ⌝ }
+{
+    if bits::beyond(frame, stream_count(k, p)) {
+        ReadFrame::Refused(Refusal::DigitBeyondStreams)
+    } else {
+        ReadFrame::Frame(frame)
+    }
+}
+
+// Above zero is 1; below zero, zero of either sign and 'erased' are 0; a level that is infinite or not a number is refused.
+fn digit_of(reading: Reading) -> ReadDigit
+    ensures { λ r. ⌜ yieldOf r ≡ digitOf reading ⌝ }
+{
+    match reading {
+        Reading::Erased => ReadDigit::Digit(0),
+        Reading::Level(level) => {
+            let infinite = 1.0f32 / 0.0f32;
+            if level < infinite {
+                if level > -infinite {
+                    if level > 0.0 {
+                        return ReadDigit::Digit(1);
+                    }
+                    return ReadDigit::Digit(0);
+                }
+            }
+            ReadDigit::Refused(Refusal::LevelNotFinite)
+        }
+    }
+}
+
+// The frame of the first n readings, or the refusal of the first that has one.
+fn frame_of(readings: [Reading; 8], n: usize) -> ReadFrame
+    requires { ⌜ n ≤ 8 ⌝ }
+    ensures { λ r. ⌜ frameYieldOf r ≡ readFrameOf readings n ⌝ }
+{
+    let mut frame: u32 = 0;
+    let mut s = 0;
+    while s < n {
+        let reading = readings[s];
+        let yielded = digit_of(reading);
+        match yielded {
+            ReadDigit::Digit(digit) => {
+                frame = frame + bits::shift_up(digit, s);
+            }
+            ReadDigit::Refused(refusal) => {
+                return ReadFrame::Refused(refusal);
+            }
+        }
+        s += 1;
+    }
+    let byte = frame as u8;
+    ReadFrame::Frame(byte)
+}
+
+// The frame that readings make. Those after the n-th are not looked at.
+pub fn read_frame(readings: [Reading; 8], k: usize, p: usize) -> ReadFrame
+    ensures { λ r. ⌜ frameYieldOf r ≡ readFrameOf readings (streamsOf k p) ⌝ }
+{
+    frame_of(readings, stream_count(k, p))
+}
+
+// A frame under a card number, for a session with this number of its own and so many frames received: refused by 14, then 15, then its own
+// refusal, or to be taken.
+pub fn admit(own: u8, received: u32, number: u8, read: ReadFrame) -> ReadFrame
+    ensures { λ r. ⌜ frameYieldOf r ≡ admitOf own received number (frameYieldOf read) ⌝ }
+{
+    if number != own {
+        return ReadFrame::Refused(Refusal::OtherCardNumber);
+    }
+    if MOST_FRAMES <= received as usize {
+        return ReadFrame::Refused(Refusal::TooManyFrames);
+    }
+    read
+}
