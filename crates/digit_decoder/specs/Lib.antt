@@ -1,0 +1,5 @@
+pub mod Registers
+pub mod Receive
+pub mod Claims
+pub mod Opening
+pub mod Example
