@@ -2,24 +2,29 @@
 ghost use mathlib.Core.Path.{_≡_};
 ghost use Rattle.card.specs.Outcome.{outcomeOf};
 ghost use Rattle.card.specs.Outcome.Outcome.{accepted};
-ghost use Rattle.decoder.specs.Example.{ReceivesP, ReceivesT};
+ghost use Rattle.decoder.specs.Receive.{firstCircuit};
+ghost use Rattle.digit_decoder.specs.Example.{AnswersOfP};
+ghost use Rattle.digit_decoder.specs.Receive.{secondCircuit};
+ghost use Rattle.receiving.specs.Answers.{answerOf};
+ghost use Rattle.receiving.specs.Answers as received;
+ghost use Rattle.receiving.specs.Example.{ReceivesP, ReceivesT};
 ghost use Rattle.encoder.specs.Example.{SendsP};
 ghost use Rattle.encoder.specs.Outcome.{published, frame};
 ghost use Rattle.clients.specs.Closed.{ReceivesNothing, SendsNothing};
 use crate::cards::P;
 use crate::cards::T;
-use decoder::Reading;
+use receiving::Reading;
 
-// A receiver of P: the third term, the rule, the answers and the link figure, for lists of calls.
+// A receiver of P: the third term, the rule and the answers, for lists of calls.
 pub fn p_receives() -> decoder::Opened
-    ensures { λ r. ⌜ (outcomeOf (r .verdict) ≡ accepted) × ReceivesP (r .session) ⌝ }
+    ensures { λ r. ⌜ (outcomeOf (r .verdict) ≡ accepted) × ReceivesP firstCircuit (r .session) ⌝ }
 {
     decoder::open(&P)
 }
 
 // A receiver of T, whose information is on two streams.
 pub fn t_receives() -> decoder::Opened
-    ensures { λ r. ⌜ ReceivesT (r .session) ⌝ }
+    ensures { λ r. ⌜ ReceivesT firstCircuit (r .session) ⌝ }
 {
     decoder::open(&T)
 }
@@ -33,7 +38,7 @@ pub fn p_sends() -> encoder::Opened
 
 // The first 19 bytes of P, refused: the session takes nothing.
 pub fn short_p_receives() -> decoder::Opened
-    ensures { λ r. ⌜ ReceivesNothing r ⌝ }
+    ensures { λ r. ⌜ ReceivesNothing firstCircuit (outcomeOf (r .verdict)) (r .session) ⌝ }
 {
     decoder::open(&P[..19])
 }
@@ -61,4 +66,32 @@ pub fn p_tail() -> encoder::Sent
     let opened = encoder::open(&P);
     let first = encoder::send(opened.session, 1);
     encoder::send_tail(first.session)
+}
+
+// A receiver of P by the second circuit: the same for its rule, and the first circuit's answers call by call.
+pub fn p_receives_by_digits() -> digit_decoder::Opened
+    ensures { λ r. ⌜ (outcomeOf (r .verdict) ≡ accepted) × ReceivesP secondCircuit (r .session) × AnswersOfP (r .session) ⌝ }
+{
+    digit_decoder::open(&P)
+}
+
+pub fn t_receives_by_digits() -> digit_decoder::Opened
+    ensures { λ r. ⌜ ReceivesT secondCircuit (r .session) ⌝ }
+{
+    digit_decoder::open(&T)
+}
+
+pub fn short_p_receives_by_digits() -> digit_decoder::Opened
+    ensures { λ r. ⌜ ReceivesNothing secondCircuit (outcomeOf (r .verdict)) (r .session) ⌝ }
+{
+    digit_decoder::open(&P[..19])
+}
+
+// The answer of P to 3 as readings, after 3 as a byte: the frame of time 0.
+pub fn p_answers_by_digits() -> digit_decoder::Received
+    ensures { λ r. ⌜ answerOf (r .answer) ≡ received.frame 1 ⌝ }
+{
+    let opened = digit_decoder::open(&P);
+    let first = digit_decoder::receive_byte(opened.session, 7, 3);
+    digit_decoder::receive_readings(first.session, 7, [Reading::Level(1.0); 8])
 }

@@ -47,11 +47,11 @@ fn refused(refusal: Refusal) {
     counted(b"refused ", card::refusal_number(refusal) as u64);
 }
 
-pub(crate) fn received(answer: decoder::Answer) {
+pub(crate) fn received(answer: receiving::Answer) {
     match answer {
-        decoder::Answer::Waiting => text(b"waiting\n"),
-        decoder::Answer::Frame(frame) => counted(b"frame ", frame as u64),
-        decoder::Answer::Refused(refusal) => refused(refusal),
+        receiving::Answer::Waiting => text(b"waiting\n"),
+        receiving::Answer::Frame(frame) => counted(b"frame ", frame as u64),
+        receiving::Answer::Refused(refusal) => refused(refusal),
     }
 }
 
@@ -64,4 +64,8 @@ pub(crate) fn sent(answer: encoder::Answer) {
 
 pub(crate) fn figure(count: u32) {
     counted(b"figure ", count as u64);
+}
+
+pub(crate) fn session(selected: u8) {
+    counted(b"session ", selected as u64);
 }

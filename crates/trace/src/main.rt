@@ -10,7 +10,7 @@ use outcomes::stated_length;
 // The longest input, and one byte to tell that there is more.
 const ROOM: usize = 65537;
 
-// Opens both sessions with the card, and goes through the records after it.
+// Opens the sessions with the card, and goes through the records after it.
 fn trace(input: &[u8]) {
     let start = bits::at_most(2, input.len());
     let rest = &input[start..];
@@ -21,14 +21,20 @@ fn trace(input: &[u8]) {
     }
     let length = bits::at_most(stated, rest.len());
     let card = &rest[..length];
-    let receiver = decoder::open(card);
-    let verdict = receiver.verdict;
+    let first = decoder::open(card);
+    let verdict = first.verdict;
     match verdict {
         Verdict::Refused { refusal, offset } => lines::refused_card(refusal, offset),
         Verdict::Accepted => {
             lines::text(b"open\n");
+            let second = digit_decoder::open(card);
             let sender = encoder::open(card);
-            records::all(&rest[length..], receiver.session, sender.session);
+            records::all(
+                &rest[length..],
+                first.session,
+                second.session,
+                sender.session,
+            );
         }
     }
 }

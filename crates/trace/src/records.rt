@@ -1,8 +1,8 @@
-// The records of a trace: a kind and its bytes. Each is one call of a session.
+// The records of a trace: a kind and its bytes. Each is one call of a session, or selects one.
 ghost use Prim.Native.Nat.{_<_, _≤_};
 ghost use lib.ListN.{length};
 use crate::lines;
-use decoder::Reading;
+use receiving::Reading;
 
 // Byte i, zero beyond the record.
 fn byte(record: &[u8], i: usize) -> u8 {
@@ -19,6 +19,7 @@ fn size(kind: u8) -> usize
         b'f' => 1,
         b'i' => 2,
         b't' => 1,
+        b's' => 2,
         _ => 0,
     }
 }
@@ -77,52 +78,144 @@ fn readings(record: &[u8]) -> [Reading; 8] {
     ]
 }
 
-// Both sessions.
+// The sessions that the records drive.
 struct Sessions {
-    receiver: decoder::Session,
+    first: decoder::Session,
+    second: digit_decoder::Session,
     sender: encoder::Session,
+    selected: u8, // the receiving session that gets the frames: 0 the first, 1 the second
 }
 
-fn receives(s: Sessions, received: decoder::Received) -> Sessions {
+fn received_by_first(s: Sessions, received: decoder::Received) -> Sessions {
     let answer = received.answer;
     lines::received(answer);
-    let receiver = received.session;
+    let first = received.session;
+    let second = s.second;
     let sender = s.sender;
-    Sessions { receiver, sender }
+    Sessions {
+        first,
+        second,
+        sender,
+        selected: s.selected,
+    }
 }
 
-fn sends(s: Sessions, sent: encoder::Sent) -> Sessions {
+fn received_by_second(s: Sessions, received: digit_decoder::Received) -> Sessions {
+    let answer = received.answer;
+    lines::received(answer);
+    let first = s.first;
+    let second = received.session;
+    let sender = s.sender;
+    Sessions {
+        first,
+        second,
+        sender,
+        selected: s.selected,
+    }
+}
+
+fn sent(s: Sessions, sent: encoder::Sent) -> Sessions {
     let answer = sent.answer;
     lines::sent(answer);
-    let receiver = s.receiver;
+    let first = s.first;
+    let second = s.second;
     let sender = sent.session;
-    Sessions { receiver, sender }
+    Sessions {
+        first,
+        second,
+        sender,
+        selected: s.selected,
+    }
 }
 
-// One record, of a kind that there is and whole.
+fn selects(s: Sessions, selected: u8) -> Sessions {
+    lines::session(selected);
+    let first = s.first;
+    let second = s.second;
+    let sender = s.sender;
+    Sessions {
+        first,
+        second,
+        sender,
+        selected,
+    }
+}
+
+fn receives_byte(s: Sessions, number: u8, frame: u8) -> Sessions {
+    if s.selected == 0 {
+        let session = s.first;
+        return received_by_first(s, decoder::receive_byte(session, number, frame));
+    }
+    let session = s.second;
+    received_by_second(s, digit_decoder::receive_byte(session, number, frame))
+}
+
+fn receives_readings(s: Sessions, number: u8, readings: [Reading; 8]) -> Sessions {
+    if s.selected == 0 {
+        let session = s.first;
+        return received_by_first(s, decoder::receive_readings(session, number, readings));
+    }
+    let session = s.second;
+    received_by_second(
+        s,
+        digit_decoder::receive_readings(session, number, readings),
+    )
+}
+
+fn sends(s: Sessions, info: u8) -> Sessions {
+    let session = s.sender;
+    sent(s, encoder::send(session, info))
+}
+
+fn sends_tail(s: Sessions) -> Sessions {
+    let session = s.sender;
+    sent(s, encoder::send_tail(session))
+}
+
+fn tells_figure(s: Sessions) -> Sessions {
+    let session = s.first;
+    lines::figure(decoder::link_figure(session));
+    s
+}
+
+// Whether a record of a kind that there is can be done: its tags are tags, there is such a session, and the one that is selected has a figure.
+fn is_good(record: &[u8], selected: u8) -> bool {
+    let kind = byte(record, 0);
+    match kind {
+        b'r' => tagged(record),
+        b's' => byte(record, 1) < 2,
+        b'f' => selected == 0,
+        _ => true,
+    }
+}
+
+// One record that is good and whole.
 fn one(s: Sessions, record: &[u8]) -> Sessions {
     let kind = byte(record, 0);
     let second = byte(record, 1);
-    let receiver = s.receiver;
-    let sender = s.sender;
     match kind {
-        b'b' => receives(s, decoder::receive_byte(receiver, second, byte(record, 2))),
-        b'r' => receives(
-            s,
-            decoder::receive_readings(receiver, second, readings(record)),
-        ),
-        b'i' => sends(s, encoder::send(sender, second)),
-        b't' => sends(s, encoder::send_tail(sender)),
-        _ => {
-            lines::figure(decoder::link_figure(receiver));
-            s
-        }
+        b'b' => receives_byte(s, second, byte(record, 2)),
+        b'r' => receives_readings(s, second, readings(record)),
+        b'i' => sends(s, second),
+        b't' => sends_tail(s),
+        b's' => selects(s, second),
+        _ => tells_figure(s),
     }
 }
 
 // The records in their order, to the end or to one that is none.
-pub(crate) fn all(input: &[u8], receiver: decoder::Session, sender: encoder::Session) {
-    let mut s = Sessions { receiver, sender };
+pub(crate) fn all(
+    input: &[u8],
+    first: decoder::Session,
+    second: digit_decoder::Session,
+    sender: encoder::Session,
+) {
+    let mut s = Sessions {
+        first,
+        second,
+        sender,
+        selected: 0,
+    };
     let mut at = 0;
     while at < input.len() {
         let kind = input[at];
@@ -137,7 +230,7 @@ pub(crate) fn all(input: &[u8], receiver: decoder::Session, sender: encoder::Ses
         }
         let end = at + n;
         let record = &input[at..end];
-        if kind == b'r' && !tagged(record) {
+        if !is_good(record, s.selected) {
             lines::bad_record();
             return;
         }

@@ -54,6 +54,9 @@ text-requires c κs = search needs
 open-requires-2 : tie.Need-open-requires-2
 open-requires-2 c κs = search needs
 
+open-requires-3 : tie.Need-open-requires-3
+open-requires-3 c κs = search needs
+
 sub-all : tie.Need-sub-all
 sub-all c = search needs
 
@@ -92,6 +95,7 @@ trace-spec =
     slice-aggregate-text
     text-requires
     open-requires-2
+    open-requires-3
     sub-all
     part-all-start
     part-all-end

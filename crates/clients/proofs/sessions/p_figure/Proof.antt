@@ -21,7 +21,7 @@ link-figure-requires c κs = search needs
 
 returns : tie.Need-returns
 unfolding ofBits
-returns c = figure-after _ (c .before .before .before .open .ensures) (c .before .before .receive-byte .result) (c .before .receive-readings .result) _ (c .before .before .receive-byte .ensures) (c .before .receive-readings .ensures) (c .link-figure .ensures)
+returns c = figure-after (c .before .before .before .open .result) (c .before .before .before .open .ensures) (c .before .before .receive-byte .result) (c .before .receive-readings .result) _ (c .before .before .receive-byte .ensures) (c .before .receive-readings .ensures) (c .link-figure .ensures)
 
 pub p-figure-spec : {M : Type 1} → statement M
 p-figure-spec =

@@ -10,7 +10,7 @@ open-requires : tie.Need-open-requires
 open-requires c κs = search needs
 
 returns : tie.Need-returns
-returns c = (opened-P _ (c .open .ensures), receives-as-P _ (c .open .ensures))
+returns c = (opened-P (c .open .result) (c .open .ensures), receives-as-P (c .open .result) (c .open .ensures))
 
 pub p-receives-spec : {M : Type 1} → statement M
 p-receives-spec = tie.close (tie.spec slice-aggregate-open open-requires returns)

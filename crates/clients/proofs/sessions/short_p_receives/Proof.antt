@@ -1,5 +1,5 @@
 use borrow.Author.Needs.{needs}
-use Rattle.clients.proofs.ReceiverClauses.{receives-nothing}
+use Rattle.clients.proofs.ReceiverClauses.{closed-receives}
 use Rattle.clients.proofs.sessions.short_p_receives.Statement.{statement}
 use Rattle.clients.proofs.sessions.short_p_receives.Tie as tie
 
@@ -13,7 +13,7 @@ open-requires : tie.Need-open-requires
 open-requires c κs = search needs
 
 returns : tie.Need-returns
-returns c = receives-nothing _ (c .open .ensures)
+returns c = closed-receives (c .open .result) (c .open .ensures)
 
 pub short-p-receives-spec : {M : Type 1} → statement M
 short-p-receives-spec =

@@ -12,7 +12,7 @@ open-requires c κs = search needs
 
 returns : tie.Need-returns
 unfolding checks
-returns c = receives-as-T _ (c .open .ensures)
+returns c = receives-as-T (c .open .result) (c .open .ensures)
 
 pub t-receives-spec : {M : Type 1} → statement M
 t-receives-spec = tie.close (tie.spec slice-aggregate-open open-requires returns)

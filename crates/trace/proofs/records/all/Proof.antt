@@ -48,8 +48,8 @@ part-record-start c = omega arith
 part-record-end : tie.Need-part-record-end Inv-loop μ-loop
 part-record-end c = omega arith
 
-tagged-requires : tie.Need-tagged-requires Inv-loop μ-loop
-tagged-requires c κs = search needs
+is-good-requires : tie.Need-is-good-requires Inv-loop μ-loop
+is-good-requires c κs = search needs
 
 bad-record-requires-3 : tie.Need-bad-record-requires-3 Inv-loop μ-loop
 bad-record-requires-3 c κs = search needs
@@ -87,7 +87,7 @@ all-spec =
     sub-record
     part-record-start
     part-record-end
-    tagged-requires
+    is-good-requires
     bad-record-requires-3
     returns-3
     one-requires
