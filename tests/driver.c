@@ -1,7 +1,8 @@
 /* Sets the library (libburst.a, by include/burst.h) against the reference: random and damaged cards, each also
  * written out, random bursts with few, many and only wrong digits, every output size around the count. Each
  * call's answer, every output byte, the guard bytes around each lent buffer, and the card and input themselves
- * are compared.
+ * are compared. What the library receives by the first circuit is also set against the reference's second one, on
+ * streams most of which are beyond the correctable number.
  *
  *     driver               everything, with the seed that is always the same
  *     driver SEED          everything, with another seed
@@ -47,7 +48,8 @@ struct calls {
 static struct {
     struct calls bursts, writes;
     long cards, cards_accepted, streams, clean, corrected, beyond, correctable;
-    int most_checks; /* the largest J of a stream's card */
+    long by_second, by_second_beyond; /* streams received by the second circuit too; beyond the correctable number */
+    int most_checks;                  /* the largest J of a stream's card */
     long cards_refused[32]; /* cards, by the refusal's number */
 } counts;
 
@@ -268,6 +270,32 @@ static void any_frames(struct random *r, const struct fields *fields, const uint
     call(r, direction, card, card_length, frames, (size_t)length, (size_t)between(r, 0, 2 * (int)length + 40));
 }
 
+/* What the library has just received, received by the reference's second circuit. */
+static void receive_by_second(const uint8_t *card, size_t card_length, const uint8_t *input, long input_length,
+                              long count)
+{
+    uint8_t frames[120] = {0};
+    int32_t answer = reference_burst_receive_by_digits(card, card_length, input, (size_t)input_length, frames,
+                                                       (size_t)count);
+    if (answer != count || memcmp(frames, lent_bytes(&output_arena), (size_t)count) != 0) {
+        print_hexadecimal("output of the library", lent_bytes(&output_arena), (size_t)count);
+        print_hexadecimal("output of the second circuit", frames, (size_t)count);
+        fail("by the second circuit other frames are received (answer %d)", (int)answer);
+    }
+}
+
+static void count_stream(const struct fields *fields, int wrong, int as_sent, int must)
+{
+    counts.streams++;
+    for (int i = 1; i <= fields->k; i++)
+        if (fields->J[i] > counts.most_checks)
+            counts.most_checks = fields->J[i];
+    counts.clean += !wrong;
+    counts.corrected += wrong && as_sent;
+    counts.beyond += !as_sent;
+    counts.correctable += must && wrong;
+}
+
 /* A sent stream, with wrong digits, received: what comes out, and whether it must come out as sent. */
 static void stream(struct random *r, const struct fields *fields, const uint8_t *card, size_t card_length)
 {
@@ -287,16 +315,14 @@ static void stream(struct random *r, const struct fields *fields, const uint8_t 
         fail("%ld frames are received as %d", whole, (int)answer);
     int as_sent = memcmp(expected, information, (size_t)count) == 0;
     int must = reference_correctable(fields, sent, received, count);
-    counts.streams++;
-    for (int i = 1; i <= fields->k; i++)
-        if (fields->J[i] > counts.most_checks)
-            counts.most_checks = fields->J[i];
-    counts.clean += wrong == 0;
-    counts.corrected += wrong > 0 && as_sent;
-    counts.beyond += !as_sent;
-    counts.correctable += must && wrong > 0;
+    count_stream(fields, wrong > 0, as_sent, must);
     if (must && !as_sent)
         fail("a correctable stream did not come out as sent");
+    if (!must || one_in(r, 4)) {
+        receive_by_second(card, card_length, received, whole, count);
+        counts.by_second++;
+        counts.by_second_beyond += !must;
+    }
     if (one_in(r, 8)) {
         sizes_around(r, SEND, card, card_length, information, count, whole);
         sizes_around(r, RECEIVE, card, card_length, received, whole, count);
@@ -548,6 +574,8 @@ static void expect(struct random *r, enum direction direction, const struct fiel
     int32_t given = call(r, direction, card, length, input, input_length, 8);
     if (given != answer || (answer > 0 && memcmp(expected, output, (size_t)answer) != 0))
         fail("the bench's case answers %d or gives other frames", (int)given);
+    if (direction == RECEIVE)
+        receive_by_second(card, length, input, (long)input_length, answer);
 }
 
 static void expect_card(struct random *r, const struct fields *fields, int refusal)
@@ -726,6 +754,8 @@ static void print_counts(void)
     print_written();
     printf("%ld streams: %ld without a wrong digit, %ld corrected, %ld beyond (%ld with wrong digits had to come out as sent)\n",
            counts.streams, counts.clean, counts.corrected, counts.beyond, counts.correctable);
+    printf("%ld of the streams received by the second circuit too, %ld of them beyond the correctable number\n",
+           counts.by_second, counts.by_second_beyond);
 }
 
 /* Whether a burst can meet the refusal, and whether card_write can. The others are for sessions. */
@@ -747,6 +777,12 @@ static int wrote_enough(void)
            written.zero_check_mask >= 500 && written.k_above_1 >= 500 && written.p_above_1 >= 500;
 }
 
+/* Up to the correctable number both circuits must give what was sent, so most streams are to be beyond it. */
+static int second_tried_enough(void)
+{
+    return counts.by_second >= 3000 && 2 * counts.by_second_beyond > counts.by_second;
+}
+
 /* A run that did not try everything is no proof of agreement. */
 static int tried_enough(void)
 {
@@ -759,6 +795,10 @@ static int tried_enough(void)
         }
     if (!wrote_enough()) {
         printf("FAILED: too few cards written, or too few of a kind\n");
+        enough = 0;
+    }
+    if (!second_tried_enough()) {
+        printf("FAILED: too few streams for the second circuit, or not most of them beyond the correctable number\n");
         enough = 0;
     }
     if (counts.most_checks < MOST_CHECKS || counts.cards < 20000 || counts.streams < 5000 || counts.corrected < 500 || counts.beyond < 500) {

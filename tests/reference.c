@@ -332,7 +332,8 @@ static int check_at(const struct fields *card, const struct frame *received, con
 }
 
 /* Decides the errors of frame u, all streams from the errors of earlier frames only, and gives the frame handed out. */
-static struct frame decide(const struct fields *card, const struct frame *received, struct frame *decided, long u)
+static struct frame decide_errors(const struct fields *card, const struct frame *received, struct frame *decided,
+                                  long u)
 {
     struct frame out;
     memset(&out, 0, sizeof out);
@@ -345,6 +346,70 @@ static struct frame decide(const struct fields *card, const struct frame *receiv
         out.digit[i] = (received[u].digit[i] + decided[u].digit[i]) % 2;
     }
     return out;
+}
+
+/* ---- The second circuit (document 02, R-2) ---- */
+
+/* The sum of the digits that enter a check on digit i at u by its pair (a, j), except that digit: the parity digit
+ * at u + a, and the information digits that it was made of, decided ones for times before u. */
+static int entering(const struct fields *card, const struct frame *received, const struct frame *decided, int i,
+                    long u, int a, int j)
+{
+    int sum = received[u + a].digit[card->k + j];
+    for (int s = 1; s <= card->k; s++)
+        for (int l = 0; l <= card->m; l++) {
+            long time = u + a - l;
+            if (card->g[s][j][l] && time >= 0 && !(time == u && s == i))
+                sum += time < u ? decided[time].digit[s] : received[time].digit[s];
+        }
+    return sum % 2;
+}
+
+/* The vote of check q on digit i at u. */
+static int vote(const struct fields *card, const struct frame *received, const struct frame *decided, int i, int q,
+                long u)
+{
+    int sum = 0;
+    for (int j = 1; j <= card->p; j++)
+        for (int a = 0; a <= card->m; a++)
+            if (card->check[i][q][j][a])
+                sum += entering(card, received, decided, i, u, a, j);
+    return sum % 2;
+}
+
+/* Digit i at u: the majority of its checks' votes, the received digit if there are as many for 0 as for 1. */
+static int digit_by_votes(const struct fields *card, const struct frame *received, const struct frame *decided, int i,
+                          long u)
+{
+    int for_1 = 0, for_0 = 0;
+    for (int q = 1; q <= card->J[i]; q++) {
+        if (vote(card, received, decided, i, q, u))
+            for_1++;
+        else
+            for_0++;
+    }
+    return for_1 > for_0 ? 1 : for_0 > for_1 ? 0 : received[u].digit[i];
+}
+
+/* Decides the digits of frame u, which is the frame handed out. Until all are, none of them stands in `decided`. */
+static struct frame decide_digits(const struct fields *card, const struct frame *received, struct frame *decided,
+                                  long u)
+{
+    struct frame out;
+    memset(&out, 0, sizeof out);
+    for (int i = 1; i <= card->k; i++)
+        out.digit[i] = digit_by_votes(card, received, decided, i, u);
+    decided[u] = out;
+    return out;
+}
+
+/* ---- Both circuits ---- */
+
+/* Decides frame u and gives the frame handed out. */
+static struct frame decide(enum circuit circuit, const struct fields *card, const struct frame *received,
+                           struct frame *decided, long u)
+{
+    return circuit == TYPE_I ? decide_errors(card, received, decided, u) : decide_digits(card, received, decided, u);
 }
 
 /* ---- Frames as bytes and readings ("Readings and bursts") ---- */
@@ -444,8 +509,8 @@ int32_t reference_burst_send(const uint8_t *card_bytes, size_t card_length, cons
     return refusal ? -refusal : (int32_t)count;
 }
 
-int32_t reference_burst_receive(const uint8_t *card_bytes, size_t card_length, const uint8_t *input,
-                                size_t input_length, uint8_t *output, size_t output_length)
+static int32_t receive_burst(enum circuit circuit, const uint8_t *card_bytes, size_t card_length,
+                             const uint8_t *input, size_t input_length, uint8_t *output, size_t output_length)
 {
     struct fields card;
     int refusal = reference_read_card(card_bytes, card_length, &card).refusal;
@@ -460,12 +525,24 @@ int32_t reference_burst_receive(const uint8_t *card_bytes, size_t card_length, c
     struct frame *decided = allocate(count, sizeof *decided);
     refusal = frames_of_bytes(input, input_length, card.n, received);
     for (size_t u = 0; u < count && !refusal; u++) {
-        struct frame out = decide(&card, received, decided, (long)u);
+        struct frame out = decide(circuit, &card, received, decided, (long)u);
         output[u] = byte_of_frame(&out);
     }
     free(received);
     free(decided);
     return refusal ? -refusal : (int32_t)count;
+}
+
+int32_t reference_burst_receive(const uint8_t *card, size_t card_length, const uint8_t *input, size_t input_length,
+                                uint8_t *output, size_t output_length)
+{
+    return receive_burst(TYPE_I, card, card_length, input, input_length, output, output_length);
+}
+
+int32_t reference_burst_receive_by_digits(const uint8_t *card, size_t card_length, const uint8_t *input,
+                                          size_t input_length, uint8_t *output, size_t output_length)
+{
+    return receive_burst(TYPE_II, card, card_length, input, input_length, output, output_length);
 }
 
 /* ---- What comes out as sent ---- */
@@ -518,9 +595,10 @@ static struct answer frame_given(const struct frame *frame)
     return answer;
 }
 
-void reference_open_receiving(struct receiving *session, const struct fields *card)
+void reference_open_receiving(struct receiving *session, enum circuit circuit, const struct fields *card)
 {
     memset(session, 0, sizeof *session);
+    session->circuit = circuit;
     session->card = *card;
 }
 
@@ -553,7 +631,7 @@ static struct answer take(struct receiving *session, const struct frame *frame)
         struct answer waiting = {WAITING, 0};
         return waiting;
     }
-    struct frame out = decide(&session->card, session->received, session->decided, u);
+    struct frame out = decide(session->circuit, &session->card, session->received, session->decided, u);
     return frame_given(&out);
 }
 

@@ -1,7 +1,10 @@
 /* The second opinion: link cards, sending and threshold receiving, written from document 01
  * (the project's scope), before its author looked at the library's code. Where the document leaves a point
  * open, the project's DESIGN.md had been read, so on those points it is not a second reading. The written
- * form of a card (document 02, R-1) was added later, by an author who had seen the library's.
+ * form of a card (document 02, R-1) was added later, by an author who had seen the library's. The second
+ * circuit (document 02, R-2) was added by an author who had not seen the library's, from that document's
+ * sentence and the report's section 4.1 b. That a digit enters a check once for each of its pairs, and that the
+ * session has the first one's calls and refusals, the author was told, so there it is no second reading.
  *
  * It is made to be read, not to be fast. A digit is an int that is 0 or 1, a sum of digits is a
  * sum with one `% 2` at its end, and a stream keeps every frame from time 0 on: no masks, no
@@ -56,11 +59,21 @@ int32_t reference_card_write(const uint8_t *card, size_t card_length, uint8_t *o
 
 struct touched reference_touched(const struct fields *card, int i, int q);
 
+/* By which of the report's two circuits (its section 4.1) a receiver decides. */
+enum circuit {
+    TYPE_I, /* document 01's: the checks vote on the error, from syndromes */
+    TYPE_II /* document 02's R-2: they vote on the digit itself, from received digits; no link figure */
+};
+
 /* The bursts, called as the library's are. */
 int32_t reference_burst_send(const uint8_t *card, size_t card_length, const uint8_t *input, size_t input_length,
                              uint8_t *output, size_t output_length);
 int32_t reference_burst_receive(const uint8_t *card, size_t card_length, const uint8_t *input, size_t input_length,
                                 uint8_t *output, size_t output_length);
+
+/* What the receiver of bursts gives if it is built by the second circuit. */
+int32_t reference_burst_receive_by_digits(const uint8_t *card, size_t card_length, const uint8_t *input,
+                                          size_t input_length, uint8_t *output, size_t output_length);
 
 /* The notice's third term: 1 if for each of the `count` information frames' digits the wrong digits among
  * those that its checks touch are at most half of J. sent and received are whole streams, count + m frame bytes. */
@@ -79,8 +92,9 @@ struct reading {
 };
 
 struct receiving {
+    enum circuit circuit;
     struct fields card;
-    struct frame *received, *decided; /* from time 0; an error is decided for the frames handed out only */
+    struct frame *received, *decided; /* from time 0; decided for the frames handed out only, errors or digits */
     long count, room;                 /* frames received */
 };
 
@@ -91,10 +105,10 @@ struct sending {
     int tail; /* tail frames that are out */
 };
 
-void reference_open_receiving(struct receiving *session, const struct fields *card);
+void reference_open_receiving(struct receiving *session, enum circuit circuit, const struct fields *card);
 struct answer reference_receive_byte(struct receiving *session, int number, uint8_t byte);
 struct answer reference_receive_readings(struct receiving *session, int number, const struct reading readings[8]);
-long reference_link_figure(const struct receiving *session);
+long reference_link_figure(const struct receiving *session); /* of the first circuit */
 void reference_close_receiving(struct receiving *session);
 
 void reference_open_sending(struct sending *session, const struct fields *card);

@@ -25,7 +25,7 @@ static void add_line(struct text *text, const char *format, ...)
     text->bytes[text->length++] = '\n';
 }
 
-static void add_answer(struct text *text, struct answer answer, struct trace_counts *counts)
+static void add_answer(struct text *text, struct answer answer, struct answer_counts *counts)
 {
     switch (answer.kind) {
     case WAITING:
@@ -58,62 +58,127 @@ static int readings_of(const uint8_t *bytes, struct reading readings[8])
     return 1;
 }
 
-/* Does what one record asks. Gives its length, or 0 for a record that is cut short or of another kind. */
-static size_t one_record(const uint8_t *record, size_t left, struct receiving *receiving, struct sending *sending,
-                         struct text *text, struct trace_counts *counts)
+/* The sessions that a trace drives: session X is receiving[X]. */
+struct sessions {
+    struct receiving receiving[2];
+    int selected;
+    struct sending sending;
+};
+
+static void open_sessions(struct sessions *sessions, const struct fields *card,
+                          void (*spoil)(int session, struct fields *card))
 {
+    for (int session = 0; session < 2; session++) {
+        struct fields own = *card;
+        spoil(session, &own);
+        reference_open_receiving(&sessions->receiving[session], session == 0 ? TYPE_I : TYPE_II, &own);
+    }
+    reference_open_sending(&sessions->sending, card);
+    sessions->selected = 0;
+}
+
+static void close_sessions(struct sessions *sessions)
+{
+    reference_close_receiving(&sessions->receiving[0]);
+    reference_close_receiving(&sessions->receiving[1]);
+    reference_close_sending(&sessions->sending);
+}
+
+/* The record `s`. As below, gives its length, or 0 for a bad record. */
+static size_t select_session(const uint8_t *record, size_t left, struct sessions *sessions, struct text *text,
+                             struct trace_counts *counts)
+{
+    if (left < 2) {
+        counts->cut_selections++;
+        return 0;
+    }
+    if (record[1] > 1) {
+        counts->other_selections++;
+        return 0;
+    }
+    counts->selections++;
+    sessions->selected = record[1];
+    add_line(text, "session %d", sessions->selected);
+    return 2;
+}
+
+/* The record `f`. The second circuit gives no link figure. */
+static size_t tell_figure(const struct sessions *sessions, struct text *text, struct trace_counts *counts)
+{
+    if (sessions->selected == 1) {
+        counts->second_figures++;
+        return 0;
+    }
+    counts->figures++;
+    add_line(text, "figure %ld", reference_link_figure(&sessions->receiving[0]));
+    return 1;
+}
+
+/* Does what one record asks. Gives its length, or 0 for a record that is cut short or of another kind. */
+static size_t one_record(const uint8_t *record, size_t left, struct sessions *sessions, struct text *text,
+                         struct trace_counts *counts)
+{
+    struct receiving *receiving = &sessions->receiving[sessions->selected];
+    struct answer_counts *received = &counts->received[sessions->selected];
     struct reading readings[8];
     switch (record[0]) {
+    case 's':
+        return select_session(record, left, sessions, text, counts);
     case 'b':
         if (left < 3)
             return 0;
-        add_answer(text, reference_receive_byte(receiving, record[1], record[2]), counts);
+        add_answer(text, reference_receive_byte(receiving, record[1], record[2]), received);
         return 3;
     case 'r':
         if (left < 42 || !readings_of(record + 2, readings))
             return 0;
-        add_answer(text, reference_receive_readings(receiving, record[1], readings), counts);
+        add_answer(text, reference_receive_readings(receiving, record[1], readings), received);
         return 42;
     case 'f':
-        counts->figures++;
-        add_line(text, "figure %ld", reference_link_figure(receiving));
-        return 1;
+        return tell_figure(sessions, text, counts);
     case 'i':
         if (left < 2)
             return 0;
-        add_answer(text, reference_send(sending, record[1]), counts);
+        add_answer(text, reference_send(&sessions->sending, record[1]), &counts->sent);
         return 2;
     case 't':
-        add_answer(text, reference_send_tail(sending), counts);
+        add_answer(text, reference_send_tail(&sessions->sending), &counts->sent);
         return 1;
     default:
         return 0;
     }
 }
 
-static void all_records(const uint8_t *records, size_t length, const struct fields *card, struct text *text,
+static void all_records(const uint8_t *records, size_t length, struct sessions *sessions, struct text *text,
                         struct trace_counts *counts)
 {
-    struct receiving receiving;
-    struct sending sending;
-    reference_open_receiving(&receiving, card);
-    reference_open_sending(&sending, card);
     for (size_t at = 0; at < length;) {
-        size_t size = one_record(records + at, length - at, &receiving, &sending, text, counts);
+        size_t size = one_record(records + at, length - at, sessions, text, counts);
         if (size == 0) {
             add_line(text, "bad record");
-            break;
+            return;
         }
         counts->records++;
         at += size;
     }
-    reference_close_receiving(&receiving);
-    reference_close_sending(&sending);
+}
+
+static void not_at_all(int session, struct fields *card)
+{
+    (void)session;
+    (void)card;
 }
 
 void reference_trace(const uint8_t *input, size_t length, struct text *text, struct trace_counts *counts)
 {
+    reference_trace_spoiled(input, length, not_at_all, text, counts);
+}
+
+void reference_trace_spoiled(const uint8_t *input, size_t length, void (*spoil)(int session, struct fields *card),
+                             struct text *text, struct trace_counts *counts)
+{
     struct fields card;
+    struct sessions sessions;
     size_t stated = length < 2 ? 0 : input[0] + 256u * input[1];
     size_t after_length = length < 2 ? length : 2;
     if (length > MOST_TRACE_BYTES || stated > MOST_STATED_LENGTH) {
@@ -128,5 +193,7 @@ void reference_trace(const uint8_t *input, size_t length, struct text *text, str
         return;
     }
     add_line(text, "open");
-    all_records(input + after_length + there, length - after_length - there, &card, text, counts);
+    open_sessions(&sessions, &card, spoil);
+    all_records(input + after_length + there, length - after_length - there, &sessions, text, counts);
+    close_sessions(&sessions);
 }

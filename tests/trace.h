@@ -1,10 +1,12 @@
-/* The output of the program `trace` as the reference has it: a card, then records that drive one receiving and one
- * sending session. */
+/* The output of the program `trace` as the reference has it: a card, then records that drive two receiving sessions,
+ * one by each circuit, and a sending one. */
 #ifndef TRACE_H
 #define TRACE_H
 
 #include <stddef.h>
 #include <stdint.h>
+
+struct fields;
 
 enum {
     MOST_TRACE_BYTES = 65536,
@@ -18,14 +20,26 @@ struct text {
     size_t length, room;
 };
 
+/* What the calls of a session came to. */
+struct answer_counts {
+    long waiting, frames;
+    long refused[32]; /* by number */
+};
+
 /* What the records came to. */
 struct trace_counts {
-    long records, waiting, frames, figures;
-    long refused[32];       /* calls, by number */
-    long cards_refused[32]; /* cards, by number */
+    long records, figures, selections;
+    struct answer_counts received[2], sent;
+    long cards_refused[32]; /* by number */
+    /* Bad records: `s` alone, `s` with an X above 1, `f` while session 1 is selected. */
+    long cut_selections, other_selections, second_figures;
 };
 
 /* Adds what the program must write for this input to the text, and to the counts. */
 void reference_trace(const uint8_t *input, size_t length, struct text *text, struct trace_counts *counts);
+
+/* The same for a program that errs: each receiving session is opened with the card as `spoil` leaves it. */
+void reference_trace_spoiled(const uint8_t *input, size_t length, void (*spoil)(int session, struct fields *card),
+                             struct text *text, struct trace_counts *counts);
 
 #endif
