@@ -1,4 +1,5 @@
--- The claims of a session applied to cards P and T. What the calls take is computed; what they come to is not.
+-- The claims of a session applied to cards P and T. What the calls take is computed, and the answers to P's; what the
+-- clauses give is not.
 use Prim.Native.Nat.{ℕ}
 use mathlib.Core.Path.{_≡_, refl, ap, _∙_}
 use mathlib.Core.List.{List, [], _∷_}
