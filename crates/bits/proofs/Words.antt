@@ -2,7 +2,7 @@
 -- digit beyond their streams.
 use Prim.Native.Nat.{ℕ, zero, suc, _+_, _-_, _*_, _/_, _%_, _^_, _≤_, _<_}
 use mathlib.Core.Path.{_≡_, refl, sym, ap, _∙_}
-use mathlib.Core.Bool.{Bool, true, false, _||_}
+use mathlib.Core.Bool.{Bool, true, false, _||_, or-false, or-assoc}
 use mathlib.Core.Logic.{⊎-elim}
 use mathlib.Core.List.{List}
 use native.Mathlib.Nat.{eq-or-lt-of-le, le-div-iff-mul-le, div-eq-of-lt, lt-of-le-of-lt, lt-of-lt-of-le, mul-assoc, mul-mod-left, mul-div-cancel, sub-add-cancel}
@@ -12,8 +12,8 @@ use lib.Dec.{leb, ltb}
 use lib.ListN.{length, getD, drop, drop-of-length-le}
 use lib.Seq.{drop-cons}
 use lib.Pow.{pow-pos, pow-add, pow-mono, shl-exact}
-use borrow.Author.Tests.{lt-ltb, leb-true, leb-false}
-use lib.Bits.{bitAnd, bitXor, and-le-l, and-lt, xor-lt, xor-zero-r}
+use borrow.Author.Tests.{lt-ltb, le-leb, lt-leb, leb-true, leb-false}
+use lib.Bits.{bitAnd, bitOr, bitXor, and-le-l, and-le-r, and-lt, or-lt, or-add-and, xor-lt, xor-zero-r}
 use lib.Count.{ones, ones-le}
 use Rattle.bits.specs.Sums.{sumBelow, xorBelow}
 use Rattle.bits.specs.Digits.{bit, fromDigits, dot, shiftUp, anyBeyond}
@@ -137,11 +137,33 @@ beyond-test f n = go (leb (2 ^ n) f) refl
     go true e = lt-ltb 0 (f / 2 ^ n) (le-div-iff-mul-le {k = 2 ^ n} {x = 1} {y = f} (pow-pos n) .1 (omega (arith, leb-true (2 ^ n) f e)))
     go false e = ap (λ (x : ℕ). ltb 0 x) (div-eq-of-lt (leb-false (2 ^ n) f e))
 
--- the frames from i on: the next one has a digit beyond, or one after it
-pub any-beyond-next : (n : ℕ) (frames : List ℕ) (i : ℕ) → i < length frames → anyBeyond n (drop i frames) ≡ (leb (2 ^ n) (getD frames i 0) || anyBeyond n (drop (i + 1) frames))
-unfolding anyBeyond
-any-beyond-next n frames i l = ap (anyBeyond n) (drop-cons frames i 0 l) ∙ ap (λ j. leb (2 ^ n) (getD frames i 0) || anyBeyond n (drop j frames)) (sym (add-one i))
+-- an or of frames has a digit beyond exactly if one of them has
+or-beyond : (n x y : ℕ) → leb (2 ^ n) (bitOr x y) ≡ (leb (2 ^ n) x || leb (2 ^ n) y)
+or-beyond n x y = go (leb (2 ^ n) x) (leb (2 ^ n) y) refl refl
+  where
+    go : (b d : Bool) → leb (2 ^ n) x ≡ b → leb (2 ^ n) y ≡ d → leb (2 ^ n) (bitOr x y) ≡ (b || d)
+    go true d e q = le-leb (2 ^ n) (bitOr x y) (omega (arith, or-add-and x y, and-le-r x y, leb-true (2 ^ n) x e))
+    go false true e q = le-leb (2 ^ n) (bitOr x y) (omega (arith, or-add-and x y, and-le-l x y, leb-true (2 ^ n) y q))
+    go false false e q = lt-leb (2 ^ n) (bitOr x y) (or-lt n x y (leb-false (2 ^ n) x e) (leb-false (2 ^ n) y q))
 
-pub none-beyond-end : (n : ℕ) (frames : List ℕ) (i : ℕ) → length frames ≤ i → anyBeyond n (drop i frames) ≡ false
+-- a loop that takes the or of all frames: whether it has a digit beyond so far, or one of the frames from i on
+abbrev pub BeyondFrom : ℕ → List ℕ → ℕ → ℕ → Type 0
+BeyondFrom n frames all i = anyBeyond n frames ≡ (leb (2 ^ n) all || anyBeyond n (drop i frames))
+
+pub beyond-start : (n : ℕ) (frames : List ℕ) → BeyondFrom n frames 0 0
+beyond-start n frames = sym (ap (λ b. b || anyBeyond n frames) (lt-leb (2 ^ n) 0 (pow-pos n)))
+
+pub beyond-more : (n : ℕ) (frames : List ℕ) (all i : ℕ) → i < length frames → BeyondFrom n frames all i → BeyondFrom n frames (bitOr all (getD frames i 0)) (i + 1)
 unfolding anyBeyond
-none-beyond-end n frames i l = ap (anyBeyond n) (drop-of-length-le frames l)
+beyond-more n frames all i l e =
+    let f = getD frames i 0 in
+    let rest = anyBeyond n (drop (i + 1) frames) in
+    e
+    ∙ ap (λ xs. leb (2 ^ n) all || anyBeyond n xs) (drop-cons frames i 0 l)
+    ∙ ap (λ j. leb (2 ^ n) all || (leb (2 ^ n) f || anyBeyond n (drop j frames))) (sym (add-one i))
+    ∙ sym (or-assoc (leb (2 ^ n) all) (leb (2 ^ n) f) rest)
+    ∙ ap (λ b. b || rest) (sym (or-beyond n all f))
+
+pub beyond-end : (n : ℕ) (frames : List ℕ) (all i : ℕ) → length frames ≤ i → BeyondFrom n frames all i → leb (2 ^ n) all ≡ anyBeyond n frames
+unfolding anyBeyond
+beyond-end n frames all i l e = sym (e ∙ ap (λ xs. leb (2 ^ n) all || anyBeyond n xs) (drop-of-length-le frames l) ∙ or-false (leb (2 ^ n) all))

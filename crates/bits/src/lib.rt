@@ -51,14 +51,14 @@ pub fn beyond(frame: u8, n: usize) -> bool
 pub fn any_beyond(frames: &[u8], n: usize) -> bool
     ensures { λ r. ⌜ r ≡ anyBeyond n (now (frames .entry)) ⌝ }
 {
+    // An or over all frames, with no branch to leave by: every frame is tested anyway before a byte is written.
+    let mut all: u8 = 0;
     let mut i = 0;
     while i < frames.len() {
-        if beyond(frames[i], n) {
-            return true;
-        }
+        all = all | frames[i];
         i += 1;
     }
-    false
+    beyond(all, n)
 }
 
 // x, held to a largest value.

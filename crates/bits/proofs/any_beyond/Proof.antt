@@ -1,36 +1,23 @@
--- The frames passed have no digit beyond: the answer is that of the frames from here on.
-use Prim.Native.Nat.{_+_, _-_, _≤_}
-use mathlib.Core.Path.{_≡_, refl, sym, ap, _∙_}
-use mathlib.Core.Bool.{Bool, _||_}
+-- The answer is that of the frames passed, taken together, or of the frames from here on.
+use Prim.Native.Nat.{_-_, _≤_}
+use mathlib.Core.Path.{_∙_}
 use native.Mathlib.Omega.{arith}
-use lib.ListN.{length, drop}
-use Rattle.bits.specs.Digits.{anyBeyond}
-use Rattle.bits.proofs.Words.{any-beyond-next, none-beyond-end}
+use lib.ListN.{length}
+use Rattle.bits.proofs.Words.{BeyondFrom, beyond-start, beyond-more, beyond-end}
 use Rattle.bits.proofs.any_beyond.Statement.{statement}
 use Rattle.bits.proofs.any_beyond.Tie as tie
 
 abbrev Inv-loop : tie.InvT-loop
-Inv-loop frames n i₀ i = (i ≤ length frames) × (anyBeyond n frames ≡ anyBeyond n (drop i frames))
+Inv-loop frames n all₀ i₀ all i = (i ≤ length frames) × BeyondFrom n frames all i
 
 abbrev μ-loop : tie.MeasureT-loop
-μ-loop frames n i₀ i = length frames - i
+μ-loop frames n all₀ i₀ all i = length frames - i
 
 loop-holds : tie.Need-loop-holds Inv-loop μ-loop
-loop-holds c = (omega arith, refl)
+loop-holds c = (omega arith, beyond-start (c .before .args .n) (c .before .args .frames .now))
 
-shared-slice-read-beyond : tie.Need-shared-slice-read-beyond Inv-loop μ-loop
-shared-slice-read-beyond c = omega arith
-
-beyond-requires : tie.Need-beyond-requires Inv-loop μ-loop
-beyond-requires c κs = tt
-
-returns : tie.Need-returns Inv-loop μ-loop
-returns c =
-    let a = c .before .before .before .before .before .before .args in
-    let l = c .before .before .before .before .loop in
-    sym
-    (l .inv .1 ∙ any-beyond-next (a .n) (a .frames .now) (l .i) (c .before .before .before .loop-test .taken)
-    ∙ ap (λ (b : Bool). b || anyBeyond (a .n) (drop (l .i + 1) (a .frames .now))) (sym (c .before .beyond .ensures) ∙ c .if1 .taken))
+shared-slice-read-all : tie.Need-shared-slice-read-all Inv-loop μ-loop
+shared-slice-read-all c = omega arith
 
 add-i : tie.Need-add-i Inv-loop μ-loop
 add-i c = omega arith
@@ -40,17 +27,18 @@ loop-less c = omega arith
 
 loop-again : tie.Need-loop-again Inv-loop μ-loop
 loop-again c =
-    let a = c .before .before .before .before .before .before .args in
-    let l = c .before .before .before .before .loop in (
-      omega arith,
-      l .inv .1 ∙ any-beyond-next (a .n) (a .frames .now) (l .i) (c .before .before .before .loop-test .taken)
-          ∙ ap (λ (b : Bool). b || anyBeyond (a .n) (drop (l .i + 1) (a .frames .now))) (sym (c .before .beyond .ensures) ∙ c .if1 .left),
-    )
+    let a = c .before .before .before .before .args in
+    let l = c .before .before .loop in
+    (omega arith, beyond-more (a .n) (a .frames .now) (l .all) (l .i) (c .before .loop-test .taken) (l .inv .1))
 
-returns-2 : tie.Need-returns-2 Inv-loop μ-loop
-returns-2 c =
-    let a = c .before .before .before .args in
-    sym (c .before .loop .inv .1 ∙ none-beyond-end (a .n) (a .frames .now) (c .before .loop .i) (c .loop-test .left))
+beyond-requires : tie.Need-beyond-requires Inv-loop μ-loop
+beyond-requires c κs = tt
+
+returns : tie.Need-returns Inv-loop μ-loop
+returns c =
+    let a = c .before .before .before .before .args in
+    let l = c .before .before .loop in
+    c .beyond .ensures ∙ beyond-end (a .n) (a .frames .now) (l .all) (l .i) (c .before .loop-test .left) (l .inv .1)
 
 pub any-beyond-spec : {M : Type 1} → statement M
 any-beyond-spec =
@@ -59,10 +47,9 @@ any-beyond-spec =
     Inv-loop
     μ-loop
     loop-holds
-    shared-slice-read-beyond
-    beyond-requires
-    returns
+    shared-slice-read-all
     add-i
     loop-less
     loop-again
-    returns-2)
+    beyond-requires
+    returns)
