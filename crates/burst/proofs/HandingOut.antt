@@ -8,9 +8,10 @@ use native.Mathlib.Omega.{arith}
 use lib.ListN.{length, getD, set, drop, replicate}
 use Rattle.bits.specs.Sums.{upTo}
 use Rattle.bits.proofs.Lists.{part-at, part-length, part-step}
+use Rattle.code.specs.declared.Card.{Card}
 use Rattle.majority.specs.Rule.{decided, corrected, decoded}
 use Rattle.burst.specs.Registers.{Registers, registers, generatorSums, written, TakenIn, takenOut, Corrected, correctedBy}
-use Rattle.burst.specs.Held.{With, Tables, cardWith, Carried, HandedOut, ReceivedBy}
+use Rattle.burst.specs.Held.{With, Tables, cardWith, EveryCardWith, Carried, HandedOut}
 use Rattle.burst.proofs.Following.{taken-in}
 use Rattle.burst.proofs.Waiting.{start}
 use Rattle.burst.proofs.Deciding.{decided-small, fed-back, handed-out}
@@ -34,7 +35,7 @@ module _ (tables : Tables) (frames : List ℕ) where
   -- nothing is handed out before the frame of time m
   pub hand-none : (r : Registers) (output : List ℕ) → HandedOut tables frames (tables .m) r r output output
   unfolding upTo
-  hand-none r output number g G e B =
+  hand-none r output g e number G B =
       let m = tables .m in
       let z : m - m ≡ 0 = omega arith in
       let c = cardWith number g tables in
@@ -48,10 +49,10 @@ module _ (tables : Tables) (frames : List ℕ) where
       → v ≡ correctedBy (getD frames (t - tables .m) 0) (tables .k) errors
       → HandedOut tables frames t before now output₀ output
       → HandedOut tables frames (t + 1) before (registers (taken .coming) after) output₀ (set output (t - tables .m) v)
-  hand-more t v output₀ {now = now} {taken = taken} {output = output} {after = after} {errors = errors} hm ht ho T C q handed number g G e B =
+  hand-more t v output₀ {now = now} {taken = taken} {output = output} {after = after} {errors = errors} hm ht ho T C q handed g e number G B =
       let c = cardWith number g tables in
       let m = tables .m in
-      let both = handed number g G e B in
+      let both = handed g e number G B in
       let W : With c frames t taken = taken-in c G frames t (getD frames t 0) refl now (both .0) (rw e at T) in
       let D : Corrected (generatorSums g) (c .counts) (c .checks) (taken .syndromes) (c .k) (c .p) after errors = rw e at C in
       let f = corrected c frames (decided c frames (length frames - m)) in
@@ -62,18 +63,17 @@ module _ (tables : Tables) (frames : List ℕ) where
             ∙ ap (λ x. written x f output₀) n,
       )
 
-  -- a burst of fewer than m frames
-  pub none-handed : (output : List ℕ) → length frames < tables .m → ReceivedBy tables frames output output
-  unfolding decoded upTo
-  none-handed output h number g G e =
-      let m = tables .m in
-      let c = cardWith number g tables in
-      let z : length frames - m ≡ 0 = omega arith in
-      sym (ap (λ n. upTo n (corrected c frames (decided c frames (length frames - m))) ++ drop n output) z)
-
   -- a whole burst, from registers of zeros
   pub all-handed : (output₀ output : List ℕ) (filled after : Registers)
       → Carried tables frames (tables .m) (registers (replicate 8 0) (replicate 8 0)) filled
-      → HandedOut tables frames (length frames) filled after output₀ output → ReceivedBy tables frames output₀ output
+      → HandedOut tables frames (length frames) filled after output₀ output
+      → EveryCardWith tables (λ c. output ≡ decoded c frames ++ drop (length frames - c .m) output₀)
   unfolding decoded
-  all-handed output₀ output filled after carried handed number g G e = handed number g G e (carried number g G e (start (cardWith number g tables) frames)) .1
+  all-handed output₀ output filled after carried handed g e number G = handed g e number G (carried g e number G (start (cardWith number g tables) frames)) .1
+
+-- a burst of fewer than m frames
+pub none-handed : (c : Card) (frames output : List ℕ) → length frames < c .m → output ≡ decoded c frames ++ drop (length frames - c .m) output
+unfolding decoded upTo
+none-handed c frames output h =
+    let z : length frames - c .m ≡ 0 = omega arith in
+    sym (ap (λ n. upTo n (corrected c frames (decided c frames (length frames - c .m))) ++ drop n output) z)

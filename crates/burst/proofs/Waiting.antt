@@ -78,6 +78,6 @@ module _ {sums : List ℕ} {k p m f held : ℕ} {before after : Registers} (T : 
 pub wait-more : (tables : Tables) (frames : List ℕ) (t : ℕ) {before now after : Registers} {held : ℕ} → t < tables .m
     → TakenIn (tables .sums) (tables .k) (tables .p) (tables .m) (getD frames t 0) now after held
     → Carried tables frames t before now → Carried tables frames (t + 1) before after
-wait-more tables frames t {now = now} h T carried number g G e B =
+wait-more tables frames t {now = now} h T carried g e number G B =
     let c = cardWith number g tables in
-    rw add-one (waiting c frames t h (taken-in c G frames t (getD frames t 0) refl now (carried number g G e B) (rw e at T)))
+    rw add-one (waiting c frames t h (taken-in c G frames t (getD frames t 0) refl now (carried g e number G B) (rw e at T)))

@@ -4,16 +4,16 @@
 use Prim.Native.Nat.{ℕ, suc, _+_, _-_, _*_, _%_, _<_}
 use mathlib.Core.Path.{_≡_}
 use mathlib.Core.Bool.{cond}
-use mathlib.Core.List.{List, _++_}
-use lib.ListN.{length, getD, drop}
+use mathlib.Core.List.{List}
+use lib.ListN.{length, getD}
 use lib.Dec.{leb, ltb}
 use Rattle.bits.specs.Sums.{sumBelow, back}
 use Rattle.bits.specs.Digits.{bit}
 use Rattle.code.specs.Code.{generator, digit}
-use Rattle.code.specs.Guarantees.{Guarantees}
 use Rattle.code.specs.declared.Card.{Card}
-use Rattle.majority.specs.Rule.{cleared, decided, corrected, decoded}
+use Rattle.majority.specs.Rule.{cleared, decided, corrected}
 use Rattle.burst.specs.Registers.{Registers, generatorSums, written}
+use Rattle.burst.specs.Parts.{cardOf, EveryCard}
 
 -- the part of parity digit j at t + a that the information digits of times before t give
 unfoldable pub comingAt : Card → List ℕ → ℕ → ℕ → ℕ → ℕ
@@ -49,25 +49,20 @@ tables sums counts checks k p m = record { sums = sums; counts = counts; checks 
 
 -- the card of this number with these generators and tables
 abbrev pub cardWith : ℕ → List ℕ → Tables → Card
-cardWith number generators T =
-    record { number = number; k = T .k; p = T .p; m = T .m; generators = generators; counts = T .counts; checks = T .checks }
+cardWith number generators T = cardOf number generators (T .counts) (T .checks) (T .k) (T .p) (T .m)
 
 -- every accepted card with these tables has the property
-abbrev pub EveryCard : Tables → (Card → Type 0) → Type 0
-EveryCard T P = (number : ℕ) (generators : List ℕ) → Guarantees (cardWith number generators T) → T .sums ≡ generatorSums generators → P (cardWith number generators T)
+abbrev pub EveryCardWith : Tables → (Card → Type 0) → Type 0
+EveryCardWith T P = (generators : List ℕ) → T .sums ≡ generatorSums generators → EveryCard generators (T .counts) (T .checks) (T .k) (T .p) (T .m) P
 
 -- registers that were ready for the frame of time 0 are ready for that of time t now
 abbrev pub Carried : Tables → List ℕ → ℕ → Registers → Registers → Type 0
-Carried T frames t before after = EveryCard T (λ c. Before c frames 0 before → Before c frames t after)
+Carried T frames t before after = EveryCardWith T (λ c. Before c frames 0 before → Before c frames t after)
 
 -- registers that were ready for the frame of time m are ready for that of time t now, and the frames m before those since then are handed out
 abbrev pub HandedOut : Tables → List ℕ → ℕ → Registers → Registers → List ℕ → List ℕ → Type 0
 HandedOut T frames t before after output₀ output =
-    EveryCard T
+    EveryCardWith T
     (λ c.
     Before c frames (c .m) before
     → Before c frames t after × (output ≡ written (t - c .m) (corrected c frames (decided c frames (length frames - c .m))) output₀))
-
--- the frames that the rule hands out stand at the front of the output, and the rest of it is as it was
-abbrev pub ReceivedBy : Tables → List ℕ → List ℕ → List ℕ → Type 0
-ReceivedBy T frames output₀ output = EveryCard T (λ c. output ≡ decoded c frames ++ drop (length frames - c .m) output₀)

@@ -1,3 +1,3 @@
 pub mod Registers
+pub mod Parts
 pub mod Held
-pub mod Names

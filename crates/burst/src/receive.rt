@@ -1,15 +1,16 @@
 // Receiving a whole burst: the frames of all streams in, the corrected information frames out. Each frame that is handed out is read again from
 // the input.
 ghost use mathlib.Core.Path.{_≡_};
-ghost use mathlib.Core.List.{List};
+ghost use mathlib.Core.List.{List, _++_};
 ghost use Prim.Native.Nat.{ℕ, _+_, _-_, _≤_};
-ghost use lib.ListN.{length};
-ghost use Rattle.code.specs.Guarantees.{Guarantees};
+ghost use lib.ListN.{length, drop};
+ghost use Rattle.majority.specs.Rule.{decoded};
 ghost use Rattle.outcomes.specs.Outcome.{outcome};
 ghost use Rattle.outcomes.specs.Receiving.{receiveUnder, receiveOf};
 ghost use Rattle.outcomes.specs.Claims.{ComesOutAsSent};
-ghost use Rattle.burst.specs.Registers.{registers, generatorSums};
-ghost use Rattle.burst.specs.Held.{tables, Carried, HandedOut, ReceivedBy};
+ghost use Rattle.burst.specs.Registers.{registers};
+ghost use Rattle.burst.specs.Parts.{EveryCard};
+ghost use Rattle.burst.specs.Held.{tables, Carried, HandedOut};
 use crate::answer::counted;
 use crate::answer::refused;
 use crate::registers::correct;
@@ -18,7 +19,6 @@ use crate::registers::generator_sums;
 use crate::registers::take_in;
 use card::Refusal;
 use card::Verdict;
-use code::Card;
 use code::MOST_FRAMES;
 
 // The first m frames, for which nothing is handed out.
@@ -87,8 +87,8 @@ fn receive_frames<'a>(
 )
     requires { ⌜ (k ≤ 4) × (k + p ≤ 8) × (m ≤ 31) ⌝ }
     requires { ⌜ length (now input) ≤ length (now output) + m ⌝ }
-    ensures { λ r. ⌜ ReceivedBy (tables (generatorSums (now (generators .entry))) (now (counts .entry)) (now (checks .entry)) k p m)
-        (now (input .entry)) (now (output .entry)) (now (output .exit)) ⌝ }
+    ensures { λ r. ⌜ EveryCard (now (generators .entry)) (now (counts .entry)) (now (checks .entry)) k p m
+        (λ c. now (output .exit) ≡ decoded c (now (input .entry)) ++ drop (length (now (input .entry)) - m) (now (output .entry))) ⌝ }
 {
     if input.len() < m {
         return;
@@ -118,17 +118,24 @@ fn after_first(received: usize, m: usize) -> usize
     if received < m { 0 } else { received - m }
 }
 
-// A burst under an accepted card. Every frame is tested before a byte is written.
-fn receive_under(card: Card, input: &[u8], output: &mut [u8]) -> i32
-    requires { ⌜ Guarantees card ⌝ }
-    ensures { λ r. ⌜ outcome r (now (output .exit)) ≡ receiveUnder card (now (input .entry)) (now (output .entry)) ⌝ }
+// A burst under an accepted card with these tables, which are lent: a card is large. Every frame is tested before a byte is written.
+fn receive_under<'a>(
+    generators: &'a [u32; 32],
+    counts: &'a [usize; 4],
+    checks: &'a [u32; 512],
+    k: usize,
+    p: usize,
+    m: usize,
+    input: &[u8],
+    output: &mut [u8],
+) -> i32
+    requires { ⌜ (k ≤ 4) × (k + p ≤ 8) × (m ≤ 31) ⌝ }
+    ensures { λ r. ⌜ EveryCard (now (generators .entry)) (now (counts .entry)) (now (checks .entry)) k p m
+        (λ c. outcome r (now (output .exit)) ≡ receiveUnder c (now (input .entry)) (now (output .entry))) ⌝ }
 {
     if MOST_FRAMES < input.len() {
         return refused(Refusal::TooManyFrames);
     }
-    let k = card.k;
-    let p = card.p;
-    let m = card.m;
     let count = after_first(input.len(), m);
     if output.len() < count {
         return refused(Refusal::OutputTooShort);
@@ -136,16 +143,7 @@ fn receive_under(card: Card, input: &[u8], output: &mut [u8]) -> i32
     if bits::any_beyond(input, k + p) {
         return refused(Refusal::DigitBeyondStreams);
     }
-    receive_frames(
-        &card.generators,
-        &card.counts,
-        &card.checks,
-        k,
-        p,
-        m,
-        input,
-        output,
-    );
+    receive_frames(generators, counts, checks, k, p, m, input, output);
     counted(count)
 }
 
@@ -159,7 +157,16 @@ pub extern "C" fn burst_receive(card: &[u8], input: &[u8], output: &mut [u8]) ->
     let read = card::read_card(card);
     let verdict = read.verdict;
     match verdict {
-        Verdict::Accepted => receive_under(read.card, input, output),
+        Verdict::Accepted => receive_under(
+            &read.card.generators,
+            &read.card.counts,
+            &read.card.checks,
+            read.card.k,
+            read.card.p,
+            read.card.m,
+            input,
+            output,
+        ),
         Verdict::Refused { refusal, offset: _ } => refused(refusal),
     }
 }

@@ -4,16 +4,13 @@ ghost use mathlib.Core.List.{_++_};
 ghost use Prim.Native.Nat.{_+_, _≤_};
 ghost use lib.ListN.{length, getD, drop};
 ghost use Rattle.code.specs.Code.{sent};
-ghost use Rattle.code.specs.Guarantees.{Guarantees};
-ghost use Rattle.code.specs.declared.Card.{Card};
 ghost use Rattle.outcomes.specs.Outcome.{outcome};
-ghost use Rattle.burst.specs.Names.{Names};
 ghost use Rattle.outcomes.specs.Sending.{sendUnder, sendOf};
+ghost use Rattle.burst.specs.Parts.{EveryCode};
 use crate::answer::counted;
 use crate::answer::refused;
 use card::Refusal;
 use card::Verdict;
-use code::Card;
 use code::MOST_FRAMES;
 
 // The information frame of time `at`, zero after the last one: the tail's.
@@ -37,7 +34,8 @@ fn send_frames(
     output: &mut [u8],
 )
     requires { ⌜ length (now input) + m ≤ length (now output) ⌝ }
-    ensures { λ _. ⌜ ((c : Card) → Names c (now (generators .entry)) k p m → now (output .exit) ≡ sent c (now (input .entry)) ++ drop (length (now (input .entry)) + m) (now (output .entry))) ⌝ }
+    ensures { λ _. ⌜ EveryCode (now (generators .entry)) k p m
+        (λ c. now (output .exit) ≡ sent c (now (input .entry)) ++ drop (length (now (input .entry)) + m) (now (output .entry))) ⌝ }
 {
     let end = input.len() + m;
     let mut registers = [0u32; 4];
@@ -50,12 +48,19 @@ fn send_frames(
     }
 }
 
-// A burst under an accepted card.
-fn send_under(card: Card, input: &[u8], output: &mut [u8]) -> i32
-    requires { ⌜ Guarantees card ⌝ }
-    ensures { λ r. ⌜ outcome r (now (output .exit)) ≡ sendUnder card (now (input .entry)) (now (output .entry)) ⌝ }
+// A burst under an accepted card with these tables, which are lent: a card is large. Every frame is tested before a byte is written.
+fn send_under(
+    generators: &[u32; 32],
+    k: usize,
+    p: usize,
+    m: usize,
+    input: &[u8],
+    output: &mut [u8],
+) -> i32
+    requires { ⌜ m ≤ 31 ⌝ }
+    ensures { λ r. ⌜ EveryCode (now (generators .entry)) k p m
+        (λ c. outcome r (now (output .exit)) ≡ sendUnder c (now (input .entry)) (now (output .entry))) ⌝ }
 {
-    let m = card.m;
     let count = input.len() + m;
     if MOST_FRAMES < count {
         return refused(Refusal::TooManyFrames);
@@ -63,11 +68,10 @@ fn send_under(card: Card, input: &[u8], output: &mut [u8]) -> i32
     if output.len() < count {
         return refused(Refusal::OutputTooShort);
     }
-    if bits::any_beyond(input, card.k) {
+    if bits::any_beyond(input, k) {
         return refused(Refusal::DigitBeyondStreams);
     }
-    let generators = card.generators;
-    send_frames(&generators, card.k, card.p, m, input, output);
+    send_frames(generators, k, p, m, input, output);
     counted(count)
 }
 
@@ -80,7 +84,14 @@ pub extern "C" fn burst_send(card: &[u8], input: &[u8], output: &mut [u8]) -> i3
     let read = card::read_card(card);
     let verdict = read.verdict;
     match verdict {
-        Verdict::Accepted => send_under(read.card, input, output),
+        Verdict::Accepted => send_under(
+            &read.card.generators,
+            read.card.k,
+            read.card.p,
+            read.card.m,
+            input,
+            output,
+        ),
         Verdict::Refused { refusal, offset: _ } => refused(refusal),
     }
 }

@@ -1,10 +1,8 @@
 -- Each way out of the call by what reading the card came to.
-use mathlib.Core.Path.{refl, ap, _∙_}
-use lib.IntN.{ℤ}
+use mathlib.Core.Path.{ap}
 use borrow.Author.Needs.{needs}
 use Rattle.card.specs.Outcome.{outcomeOf}
-use Rattle.outcomes.specs.Outcome.{outcome}
-use Rattle.burst.proofs.Answers.{answer-is}
+use Rattle.burst.proofs.Answers.{answer-is, outcome-is}
 use Rattle.outcomes.specs.Receiving.{receiveUnder, receiveOf}
 use Rattle.outcomes.proofs.Outcomes.{by-card, refused-by-card}
 use Rattle.outcomes.proofs.Received.{received}
@@ -18,7 +16,9 @@ enum-told : tie.Need-enum-told
 enum-told c = search needs
 
 receive-under-requires : tie.Need-receive-under-requires
-receive-under-requires c κs = c .before .before .before .read-card .ensures .guaranteed (ap outcomeOf (c .before .enum-told .given .1))
+receive-under-requires c κs =
+    let G = c .before .before .before .before .before .before .before .read-card .ensures .guaranteed (ap outcomeOf (c .before .before .before .before .before .enum-told .given .1)) in
+    (G .k-most, G .n-most, G .m-most)
 
 enum-known-verdict : tie.Need-enum-known-verdict
 enum-known-verdict c = search needs
@@ -32,12 +32,14 @@ same-length c = search needs
 returns : tie.Need-returns
 unfolding receiveOf
 returns c =
-    let a = c .before .before .before .before .before .before .before .before .before .before .args in
-    let read = c .before .before .before .before .before .before .read-card in
+    let a = c .before .before .before .before .before .before .before .before .before .before .before .before .before .before .args in
+    let read = c .before .before .before .before .before .before .before .before .before .before .read-card in
+    let card = read .result .card in
+    let accepted = ap outcomeOf (c .before .before .before .before .before .before .before .before .enum-told .given .1) in
     let burst = c .before .before .receive-under in
     received (a .card .now) (read .result) (read .ensures) (a .input .now) (a .output .now)
-    (by-card (a .card .now) (read .result) (read .ensures) (λ card. receiveUnder card (a .input .now) (a .output .now)) (a .output .now) (ap outcomeOf (c .before .before .before .before .enum-told .given .1))
-    (ap (λ (z : ℤ). outcome z (burst .last .1 .1 .0)) (answer-is (burst .result) (burst .ok) refl) ∙ burst .ensures))
+    (by-card (a .card .now) (read .result) (read .ensures) (λ card. receiveUnder card (a .input .now) (a .output .now)) (a .output .now) accepted
+    (outcome-is (burst .result) (receiveUnder card (a .input .now) (a .output .now)) (burst .ok) (burst .ensures (card .number) (read .ensures .guaranteed accepted))))
 
 returns-2 : tie.Need-returns-2
 unfolding receiveOf

@@ -20,7 +20,7 @@ abbrev μ-loop : tie.MeasureT-loop
 μ-loop syndromes₀ coming₀ sums k p m input t₀ syndromes coming t = m - t
 
 loop-holds : tie.Need-loop-holds Inv-loop μ-loop
-loop-holds c = (omega arith, omega arith, omega arith, λ counts checks number g G e B. B)
+loop-holds c = (omega arith, omega arith, omega arith, λ counts checks g e number G B. B)
 
 shared-slice-read-take-in : tie.Need-shared-slice-read-take-in Inv-loop μ-loop
 shared-slice-read-take-in c = omega arith

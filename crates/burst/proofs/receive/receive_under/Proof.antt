@@ -1,14 +1,12 @@
 -- Each way out of the call by the tests that led to it.
 use Prim.Native.Nat.{_-_, _≤_, _<_}
-use mathlib.Core.Path.{refl, sym, ap, _∙_}
-use native.Mathlib.Omega.{arith}
+use mathlib.Core.Path.{sym, ap, _∙_}
 use lib.ListN.{length}
 use lib.IntN.{pos}
 use borrow.Author.Needs.{needs}
-use Rattle.code.specs.Checks.{count}
 use Rattle.majority.specs.Rule.{decoded}
 use Rattle.majority.proofs.Streams.{decoded-length}
-use Rattle.burst.specs.Registers.{generatorSums}
+use Rattle.burst.specs.Parts.{cardOf}
 use Rattle.burst.proofs.Answers.{answer-is}
 use Rattle.outcomes.proofs.Outcomes.{refused-is, given-is}
 use Rattle.outcomes.proofs.Received.{receive-full, receive-short, receive-beyond, receive-given}
@@ -19,10 +17,10 @@ refused-requires : tie.Need-refused-requires
 refused-requires c κs = search needs
 
 returns : tie.Need-returns
-returns c =
+returns c number G =
     let a = c .before .before .before .before .args in
     refused-is 15 (a .output .now) (answer-is (c .refused .result) (c .refused .ok) (c .refused .ensures))
-    ∙ sym (receive-full (a .t1) (a .input .now) (a .output .now) (c .before .if1 .taken))
+    ∙ sym (receive-full _ (a .input .now) (a .output .now) (c .before .if1 .taken))
 
 after-first-requires : tie.Need-after-first-requires
 after-first-requires c κs = search needs
@@ -31,11 +29,11 @@ refused-requires-2 : tie.Need-refused-requires-2
 refused-requires-2 c κs = search needs
 
 returns-2 : tie.Need-returns-2
-returns-2 c =
+returns-2 c number G =
     let a = c .before .before .before .before .before .before .args in
-    let l : length (a .output .now) < length (a .input .now) - a .t1 .m = rw (c .before .before .after-first .ensures) at (c .before .if2 .taken) in
+    let l : length (a .output .now) < length (a .input .now) - a .m = rw (c .before .before .after-first .ensures) at (c .before .if2 .taken) in
     refused-is 13 (a .output .now) (answer-is (c .refused2 .result) (c .refused2 .ok) (c .refused2 .ensures))
-    ∙ sym (receive-short (a .t1) (a .input .now) (a .output .now) (c .before .before .before .if1 .left) l)
+    ∙ sym (receive-short _ (a .input .now) (a .output .now) (c .before .before .before .if1 .left) l)
 
 add-any-beyond : tie.Need-add-any-beyond
 add-any-beyond c = search needs
@@ -47,19 +45,14 @@ refused-requires-3 : tie.Need-refused-requires-3
 refused-requires-3 c κs = search needs
 
 returns-3 : tie.Need-returns-3
-returns-3 c =
+returns-3 c number G =
     let a = c .before .before .before .before .before .before .before .before .args in
-    let o : length (a .input .now) - a .t1 .m ≤ length (a .output .now) = rw (c .before .before .before .before .after-first .ensures) at (c .before .before .before .if2 .left) in
+    let o : length (a .input .now) - a .m ≤ length (a .output .now) = rw (c .before .before .before .before .after-first .ensures) at (c .before .before .before .if2 .left) in
     refused-is 11 (a .output .now) (answer-is (c .refused3 .result) (c .refused3 .ok) (c .refused3 .ensures))
-    ∙ sym (receive-beyond (a .t1) (a .input .now) (a .output .now) (c .before .before .before .before .before .if1 .left) o (sym (c .before .before .any-beyond .ensures) ∙ c .before .if3 .taken))
+    ∙ sym (receive-beyond _ (a .input .now) (a .output .now) (c .before .before .before .before .before .if1 .left) o (sym (c .before .before .any-beyond .ensures) ∙ c .before .if3 .taken))
 
 receive-frames-requires : tie.Need-receive-frames-requires
-unfolding count
-receive-frames-requires c κs =
-    let G = c .before .before .before .before .before .before .before .before .before .before .before .before .pre in
-    let n = c .before .before .before .before .before .before .before .before .after-first .ensures in
-    let o = c .before .before .before .before .before .before .before .if2 .left in
-    ((G .k-most, G .n-most, G .m-most), omega arith)
+receive-frames-requires c κs = search needs
 
 counted-requires : tie.Need-counted-requires
 counted-requires c κs = search needs
@@ -68,16 +61,14 @@ same-length : tie.Need-same-length
 same-length c = search needs
 
 returns-4 : tie.Need-returns-4
-returns-4 c =
-    let start = c .before .before .before .before .before .before .before .before .before .before .before .before .before .before .before .before in
-    let a = start .args in
-    let n = c .before .before .before .before .before .before .before .before .before .before .before .before .after-first .ensures in
-    let o : length (a .input .now) - a .t1 .m ≤ length (a .output .now) = rw n at (c .before .before .before .before .before .before .before .before .before .before .before .if2 .left) in
-    given-is (length (a .input .now) - a .t1 .m) (decoded (a .t1) (a .input .now)) (a .output .now) (decoded-length (a .t1) (a .input .now))
-    (answer-is (c .counted .result) (c .counted .ok) (c .counted .ensures ∙ ap pos n))
-    (c .before .before .before .receive-frames .ensures (a .t1 .number) (a .t1 .generators) (start .pre) (refl {a = generatorSums (a .t1 .generators)}))
-    ∙ sym
-    (receive-given (a .t1) (a .input .now) (a .output .now) (c .before .before .before .before .before .before .before .before .before .before .before .before .before .if1 .left) o (sym (c .before .before .before .before .before .before .before .before .before .before .any-beyond .ensures) ∙ c .before .before .before .before .before .before .before .before .before .if3 .left))
+returns-4 c number G =
+    let a = c .before .before .before .before .before .before .before .before .before .before .before .before .args in
+    let card = cardOf number (a .generators .now) (a .counts .now) (a .checks .now) (a .k) (a .p) (a .m) in
+    let n = c .before .before .before .before .before .before .before .before .after-first .ensures in
+    let o : length (a .input .now) - a .m ≤ length (a .output .now) = rw n at (c .before .before .before .before .before .before .before .if2 .left) in
+    given-is (length (a .input .now) - a .m) (decoded card (a .input .now)) (a .output .now) (decoded-length card (a .input .now))
+    (answer-is (c .counted .result) (c .counted .ok) (c .counted .ensures ∙ ap pos n)) (c .before .before .before .receive-frames .ensures number G)
+    ∙ sym (receive-given card (a .input .now) (a .output .now) (c .before .before .before .before .before .before .before .before .before .if1 .left) o (sym (c .before .before .before .before .before .before .any-beyond .ensures) ∙ c .before .before .before .before .before .if3 .left))
 
 pub receive-under-spec : {M : Type 1} → statement M
 receive-under-spec =

@@ -1,9 +1,7 @@
-use mathlib.Core.Path.{refl, ap, _∙_}
-use lib.IntN.{ℤ}
+use mathlib.Core.Path.{ap}
 use borrow.Author.Needs.{needs}
 use Rattle.card.specs.Outcome.{outcomeOf}
-use Rattle.outcomes.specs.Outcome.{outcome}
-use Rattle.burst.proofs.Answers.{answer-is}
+use Rattle.burst.proofs.Answers.{answer-is, outcome-is}
 use Rattle.outcomes.specs.Sending.{sendUnder, sendOf}
 use Rattle.outcomes.proofs.Outcomes.{by-card, refused-by-card}
 use Rattle.burst.proofs.send.burst_send.Statement.{statement}
@@ -16,7 +14,7 @@ enum-told : tie.Need-enum-told
 enum-told c = search needs
 
 send-under-requires : tie.Need-send-under-requires
-send-under-requires c κs = c .before .before .before .read-card .ensures .guaranteed (ap outcomeOf (c .before .enum-told .given .1))
+send-under-requires c κs = c .before .before .before .before .before .read-card .ensures .guaranteed (ap outcomeOf (c .before .before .before .enum-told .given .1)) .m-most
 
 enum-known-verdict : tie.Need-enum-known-verdict
 enum-known-verdict c = search needs
@@ -30,11 +28,13 @@ same-length c = search needs
 returns : tie.Need-returns
 unfolding sendOf
 returns c =
-    let a = c .before .before .before .before .before .before .before .before .before .before .args in
-    let read = c .before .before .before .before .before .before .read-card in
+    let a = c .before .before .before .before .before .before .before .before .before .before .before .before .args in
+    let read = c .before .before .before .before .before .before .before .before .read-card in
+    let card = read .result .card in
+    let accepted = ap outcomeOf (c .before .before .before .before .before .before .enum-told .given .1) in
     let burst = c .before .before .send-under in
-    by-card (a .card .now) (read .result) (read .ensures) (λ card. sendUnder card (a .input .now) (a .output .now)) (a .output .now) (ap outcomeOf (c .before .before .before .before .enum-told .given .1))
-    (ap (λ (z : ℤ). outcome z (burst .last .1 .1 .0)) (answer-is (burst .result) (burst .ok) refl) ∙ burst .ensures)
+    by-card (a .card .now) (read .result) (read .ensures) (λ card. sendUnder card (a .input .now) (a .output .now)) (a .output .now) accepted
+    (outcome-is (burst .result) (sendUnder card (a .input .now) (a .output .now)) (burst .ok) (burst .ensures (card .counts) (card .checks) (card .number) (read .ensures .guaranteed accepted)))
 
 returns-2 : tie.Need-returns-2
 unfolding sendOf

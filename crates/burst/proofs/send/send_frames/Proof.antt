@@ -1,22 +1,20 @@
--- For whatever card has this table and these numbers: the registers hold its digits before time `at`, and the output the frames that it sends
--- before then.
+-- For whatever accepted card has this code: the registers hold its digits before time `at`, and the output the frames that it sends before then.
 use Prim.Native.Nat.{_-_, _≤_}
 use mathlib.Core.Path.{_≡_, refl, _∙_}
 use native.Mathlib.Omega.{arith}
 use lib.ListN.{length, length-set}
 use Rattle.bits.specs.Sums.{upTo}
 use Rattle.code.specs.Code.{withTail}
-use Rattle.code.specs.declared.Card.{Card}
 use Rattle.code.proofs.Registers.{frame-fits}
 use Rattle.code.proofs.Registers.{history-start}
-use Rattle.burst.specs.Names.{Names}
+use Rattle.burst.specs.Parts.{cardOf, EveryCode}
 use Rattle.burst.proofs.Sending.{SentBefore, sent-turn, sent-end}
 use Rattle.burst.proofs.send.send_frames.Statement.{statement}
 use Rattle.burst.proofs.send.send_frames.Tie as tie
 
 abbrev Inv-loop : tie.InvT-loop
 Inv-loop generators k p m input output₀ end registers₀ at₀ output registers at =
-    (at ≤ end) × (length output ≡ length output₀) × ((card : Card) → Names card generators k p m → SentBefore card input output₀ at registers output)
+    (at ≤ end) × (length output ≡ length output₀) × EveryCode generators k p m (λ card. SentBefore card input output₀ at registers output)
 
 abbrev μ-loop : tie.MeasureT-loop
 μ-loop generators k p m input output₀ end registers₀ at₀ output registers at = end - at
@@ -26,7 +24,9 @@ add-end c = omega arith
 
 loop-holds : tie.Need-loop-holds Inv-loop μ-loop
 unfolding upTo
-loop-holds c = (omega arith, refl, λ card names. (history-start card (withTail card (c .before .before .args .input .now)), refl))
+loop-holds c =
+    let a = c .before .before .args in
+    (omega arith, refl, λ counts checks number G. (history-start (cardOf number (a .generators .now) counts checks (a .k) (a .p) (a .m)) _, refl))
 
 information-requires : tie.Need-information-requires Inv-loop μ-loop
 information-requires c κs = tt
@@ -57,20 +57,19 @@ loop-again c =
     let next = c .before .before .history in (
       omega arith,
       length-set (l .output) (l .at) (c .frame .result) ∙ l .inv .1,
-      λ card names.
-          sent-turn card (a .generators .now) (a .k) (a .p) (a .m) names (a .input .now) (a .output .now) (l .at) (info .result) (c .frame .result) (l .registers) (next .result) (l .output)
-          (omega arith) (info .ensures) (next .ensures) (c .frame .ensures) (l .inv .2 card names),
+      λ counts checks number G.
+          sent-turn (cardOf number (a .generators .now) counts checks (a .k) (a .p) (a .m)) G (a .input .now) (a .output .now) (l .at) (info .result) (c .frame .result) (l .registers) (next .result) (l .output)
+          (omega arith) (info .ensures) (next .ensures) (c .frame .ensures) (l .inv .2 counts checks number G),
     )
 
 same-length : tie.Need-same-length Inv-loop μ-loop
 same-length c = c .before .loop .inv .1
 
 returns : tie.Need-returns Inv-loop μ-loop
-returns c =
+returns c counts checks number G =
     let a = c .before .before .before .before .args in
     let l = c .before .loop in
-    λ card names.
-    sent-end card (a .generators .now) (a .k) (a .p) (a .m) names (a .input .now) (a .output .now) (l .at) (l .registers) (l .output) (l .inv .0) (c .loop-test .left) (l .inv .2 card names)
+    sent-end (cardOf number (a .generators .now) counts checks (a .k) (a .p) (a .m)) G (a .input .now) (a .output .now) (l .at) (l .registers) (l .output) (l .inv .0) (c .loop-test .left) (l .inv .2 counts checks number G)
 
 pub send-frames-spec : {M : Type 1} → statement M
 send-frames-spec =

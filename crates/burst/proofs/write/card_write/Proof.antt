@@ -1,14 +1,12 @@
 -- Each way out of the call by what reading the card came to.
-use mathlib.Core.Path.{refl, ap, _∙_}
+use mathlib.Core.Path.{ap}
 use native.Mathlib.Omega.{arith}
-use lib.IntN.{ℤ}
 use borrow.Author.Needs.{needs}
 use Rattle.card.specs.Outcome.{outcomeOf}
-use Rattle.outcomes.specs.Outcome.{outcome}
 use Rattle.outcomes.proofs.Outcomes.{by-card, refused-by-card}
 use Rattle.writer.specs.Outcome.{writeUnder, writeOf}
 use Rattle.writer.proofs.Carrying.{accepted-length, wrote-card}
-use Rattle.burst.proofs.Answers.{answer-is}
+use Rattle.burst.proofs.Answers.{answer-is, outcome-is}
 use Rattle.burst.proofs.write.card_write.Statement.{statement}
 use Rattle.burst.proofs.write.card_write.Tie as tie
 
@@ -41,7 +39,7 @@ returns c =
     let answer = c .before .before .write-under in
     wrote-card (a .card .now) (a .output .now)
     (by-card (a .card .now) (read .result) (read .ensures) (λ card. writeUnder card (a .output .now)) (a .output .now) (ap outcomeOf (c .before .before .before .before .enum-told .given .1))
-    (ap (λ (z : ℤ). outcome z (answer .last .1 .0)) (answer-is (answer .result) (answer .ok) refl) ∙ answer .ensures))
+    (outcome-is (answer .result) (writeUnder (read .result .card) (a .output .now)) (answer .ok) (answer .ensures)))
 
 returns-2 : tie.Need-returns-2
 unfolding writeOf
