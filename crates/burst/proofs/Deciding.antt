@@ -26,7 +26,7 @@ use Rattle.majority.specs.Voting.{decideBy}
 use Rattle.majority.proofs.Voting.{decide-lt, decide-lt-k, decide-is}
 use Rattle.majority.proofs.Streams.{decided-length, decided-at}
 use Rattle.majority.proofs.Feedback.{cleared-fed}
-use Rattle.burst.specs.Registers.{Registers, registers, generatorSums, takenOut, Corrected, correctedBy}
+use Rattle.burst.specs.Registers.{Registers, registers, HasSums, takenOut, Corrected, correctedBy}
 use Rattle.burst.specs.Held.{syndromeHeld, Before, With}
 use Rattle.burst.proofs.Coming.{generator-beyond}
 use Rattle.burst.proofs.Following.{sums-bit}
@@ -54,7 +54,8 @@ module _ (c : Card) (G : Guarantees c) (frames : List ℕ) (t : ℕ) (r : Regist
   decide-then : decideBy (c .counts) (c .checks) (r .syndromes) (c .k) (c .p) ≡ decideFrame c frames (decided c frames (t - c .m)) (t - c .m)
   decide-then = decide-is c G frames (decided c frames (t - c .m)) (t - c .m) (r .syndromes) held-then held-beyond
 
-  module _ (after : List ℕ) (errors : ℕ) (C : Corrected (generatorSums (c .generators)) (c .counts) (c .checks) (r .syndromes) (c .k) (c .p) after errors) where
+  module _ (sums : List ℕ) (S : HasSums (c .generators) (c .k) (c .p) (2 ^ c .k) sums)
+      (after : List ℕ) (errors : ℕ) (C : Corrected sums (c .counts) (c .checks) (r .syndromes) (c .k) (c .p) after errors) where
     errors-lt : errors < 2 ^ c .k
     errors-lt = rw (C .errors-are) (decide-lt-k (c .counts) (c .checks) (r .syndromes) (c .k) (c .p) (G .k-most))
 
@@ -69,9 +70,9 @@ module _ (c : Card) (G : Guarantees c) (frames : List ℕ) (t : ℕ) (r : Regist
         ap (λ l. bit (getD l j 0) a) (w .1) ∙ omega (arith, bit-lt (getD (r .syndromes) j 0) a))
         (λ w.
         ap (λ l. bit (getD l j 0) a) w
-        ∙ ap (λ x. bit x a) (part-at (takenOut (generatorSums (c .generators)) (r .syndromes) errors) (r .syndromes) (c .p) j hj)
-        ∙ bit-xor (getD (r .syndromes) j 0) (getD (generatorSums (c .generators)) (errors * 8 + j) 0) a
-        ∙ ap (λ x. (bit (getD (r .syndromes) j 0) a + x) % 2) (sums-bit c G errors j a errors-lt hj)
+        ∙ ap (λ x. bit x a) (part-at (takenOut sums (r .syndromes) errors) (r .syndromes) (c .p) j hj)
+        ∙ bit-xor (getD (r .syndromes) j 0) (getD sums (errors * 8 + j) 0) a
+        ∙ ap (λ x. (bit (getD (r .syndromes) j 0) a + x) % 2) (sums-bit c sums S errors j a errors-lt hj)
         ∙ add-mod-mod (bit (getD (r .syndromes) j 0) a) _ 2)
         (C .after-is)
 

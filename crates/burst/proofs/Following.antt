@@ -4,20 +4,20 @@ use mathlib.Core.Path.{_≡_, sym, ap, ap₂, _∙_}
 use mathlib.Core.Bool.{cond}
 use mathlib.Core.Logic.{⊎-elim}
 use mathlib.Core.List.{List}
-use native.Mathlib.Nat.{mod-lt, add-mod-mod, add-comm, lt-of-lt-of-le, eq-or-lt-of-le}
+use native.Mathlib.Nat.{mod-lt, add-mod-mod, add-comm, eq-or-lt-of-le}
 use native.Mathlib.Omega.{arith}
 use lib.ListN.{getD}
 use lib.Bits.{bitXor}
 use lib.Dec.{leb}
-use lib.Pow.{pow-pos, pow-mono}
+use lib.Pow.{pow-pos}
 use borrow.Author.Tests.{lt-ltb, le-ltb, le-leb, lt-leb}
 use Rattle.bits.specs.Sums.{sumBelow}
 use Rattle.bits.specs.Digits.{bit, shiftUp}
-use Rattle.bits.proofs.Sums.{sum-same, sum-cut}
-use Rattle.bits.proofs.Lists.{upTo-at, part-at}
+use Rattle.bits.proofs.Sums.{sum-same}
+use Rattle.bits.proofs.Lists.{part-at}
 use Rattle.bits.proofs.Back.{back-in, back-out}
 use Rattle.bits.proofs.Cases.{le-or-lt}
-use Rattle.bits.proofs.Digits.{bit-lt, bit-zero, bit-suc, bit-shift, bit-high, bit-mod, bit-xor, bit-masks, place-same, place-other}
+use Rattle.bits.proofs.Digits.{bit-lt, bit-zero, bit-suc, bit-shift, bit-mod, bit-xor, bit-masks, place-same, place-other}
 use Rattle.bits.proofs.Words.{shift-digit}
 use Rattle.code.specs.Code.{generator, digit, parityAt}
 use Rattle.code.specs.Guarantees.{Guarantees}
@@ -25,25 +25,15 @@ use Rattle.code.specs.declared.Card.{Card}
 use Rattle.majority.specs.Rule.{syndrome, cleared, decided}
 use Rattle.majority.proofs.Streams.{decided-length}
 use Rattle.majority.proofs.Feedback.{syndrome-lt, cleared-lt, cleared-new}
-use Rattle.burst.specs.Registers.{Registers, generatorSum, generatorSums, parityWith, comingNext, syndromesNext, TakenIn}
+use Rattle.burst.specs.Registers.{Registers, generatorSum, HasSums, parityWith, comingNext, syndromesNext, TakenIn}
 use Rattle.burst.specs.Held.{comingAt, syndromeHeld, Before, With}
 use Rattle.burst.proofs.Coming.{comingWith, coming-with, coming-now, coming-later}
 
 -- the digits of the table of generator sums
-pub sums-bit : (c : Card) → Guarantees c → (x j a : ℕ) → x < 2 ^ c .k → j < c .p
-    → bit (getD (generatorSums (c .generators)) (x * 8 + j) 0) a ≡ sumBelow (c .k) (λ i. generator c i j a * bit x i) % 2
-unfolding generatorSums generatorSum generator
-sums-bit c G x j a hx hj =
-    let g = c .generators in
-    let lx : x < 16 = lt-of-lt-of-le hx (pow-mono {i = c .k} {j = 4} (G .k-most)) in
-    let lj : j < 8 = omega (arith, G .n-most) in
-    let high : (x * 8 + j) / 8 ≡ x = omega arith in
-    let low : (x * 8 + j) % 8 ≡ j = omega arith in
-    ap (λ y. bit y a) (upTo-at 128 (λ at. generatorSum g (at / 8) (at % 8)) (x * 8 + j) (omega arith) ∙ ap₂ (generatorSum g) high low)
-    ∙ bit-masks 4 (λ i. getD g (i * 8 + j) 0) (bit x) (bit-lt x) a
-    ∙ ap (λ y. y % 2)
-    (sum-cut 4 (c .k) (λ i. bit (getD g (i * 8 + j) 0) a * bit x i) (G .k-most)
-    (λ i l. ap (λ y. bit (getD g (i * 8 + j) 0) a * y) (bit-high x (c .k) i hx l) ∙ omega arith))
+pub sums-bit : (c : Card) (sums : List ℕ) → HasSums (c .generators) (c .k) (c .p) (2 ^ c .k) sums → (x j a : ℕ) → x < 2 ^ c .k → j < c .p
+    → bit (getD sums (x * 8 + j) 0) a ≡ sumBelow (c .k) (λ i. generator c i j a * bit x i) % 2
+unfolding generatorSum generator
+sums-bit c sums S x j a hx hj = ap (λ y. bit y a) (S x j hx hj) ∙ bit-masks (c .k) (λ i. getD (c .generators) (i * 8 + j) 0) (bit x) (bit-lt x) a
 
 pub held-lt : (c : Card) (frames : List ℕ) (t j a : ℕ) → syndromeHeld c frames t j a < 2
 unfolding syndromeHeld
@@ -68,26 +58,27 @@ only-first e q h = omega arith
 only-second : {x y v : ℕ} → x ≡ 0 → y ≡ v → v < 2 → (x + y) % 2 ≡ v
 only-second e q h = omega arith
 
-module _ (c : Card) (G : Guarantees c) (frames : List ℕ) (t f : ℕ) (hf : f ≡ getD frames t 0) (r : Registers) (B : Before c frames t r) where
+module _ (c : Card) (G : Guarantees c) (sums : List ℕ) (S : HasSums (c .generators) (c .k) (c .p) (2 ^ c .k) sums)
+    (frames : List ℕ) (t f : ℕ) (hf : f ≡ getD frames t 0) (r : Registers) (B : Before c frames t r) where
   -- the parity register j with the frame
-  parity-bit : (j a : ℕ) → j < c .p → bit (parityWith (generatorSums (c .generators)) (r .coming) (c .k) f j) a ≡ comingWith c frames t j a
+  parity-bit : (j a : ℕ) → j < c .p → bit (parityWith sums (r .coming) (c .k) f j) a ≡ comingWith c frames t j a
   unfolding parityWith digit
   parity-bit j a hj =
-      bit-xor (getD (r .coming) j 0) (getD (generatorSums (c .generators)) (f % 2 ^ c .k * 8 + j) 0) a
+      bit-xor (getD (r .coming) j 0) (getD sums (f % 2 ^ c .k * 8 + j) 0) a
       ∙ ap₂ (λ x y. (x + y) % 2) (B .coming-at j a hj)
-      (sums-bit c G (f % 2 ^ c .k) j a (mod-lt f (pow-pos (c .k))) hj
+      (sums-bit c sums S (f % 2 ^ c .k) j a (mod-lt f (pow-pos (c .k))) hj
       ∙ ap (λ y. y % 2)
       (sum-same (c .k) _ (λ i. generator c i j a * digit frames i t) (λ i li. ap (λ y. generator c i j a * y) (bit-mod f (c .k) i li ∙ ap (λ y. bit y i) hf))))
       ∙ add-mod-mod _ _ 2
       ∙ coming-with c G frames t j a
 
-  coming-bit : (j a : ℕ) → j < c .p → bit (comingNext (generatorSums (c .generators)) (r .coming) (c .k) f j) a ≡ comingAt c frames (suc t) j a
+  coming-bit : (j a : ℕ) → j < c .p → bit (comingNext sums (r .coming) (c .k) f j) a ≡ comingAt c frames (suc t) j a
   unfolding comingNext
   coming-bit j a hj = sym (bit-suc _ a) ∙ parity-bit j (suc a) hj ∙ coming-later c frames t j a
 
   -- the syndrome of the frame
   syndrome-is : (j : ℕ) → j < c .p
-      → bitXor (parityWith (generatorSums (c .generators)) (r .coming) (c .k) f j) (f / 2 ^ c .k / 2 ^ j) % 2 ≡ syndrome c frames t j
+      → bitXor (parityWith sums (r .coming) (c .k) f j) (f / 2 ^ c .k / 2 ^ j) % 2 ≡ syndrome c frames t j
   unfolding syndrome digit
   syndrome-is j hj =
       let z : c .k + (j + 0) ≡ c .k + j = omega arith in
@@ -98,7 +89,7 @@ module _ (c : Card) (G : Guarantees c) (frames : List ℕ) (t f : ℕ) (hf : f �
       ∙ ap (λ x. x % 2) (add-comm (parityAt c frames j t) _)
 
   held-bit : (j a : ℕ) → j < c .p
-      → bit (syndromesNext (generatorSums (c .generators)) (r .coming) (r .syndromes) (c .k) (c .m) f j) a ≡ cond (leb a (c .m)) (syndromeHeld c frames t j a) 0
+      → bit (syndromesNext sums (r .coming) (r .syndromes) (c .k) (c .m) f j) a ≡ cond (leb a (c .m)) (syndromeHeld c frames t j a) 0
   unfolding syndromesNext
   held-bit j a hj =
       let y = getD (r .syndromes) j 0 in
@@ -125,7 +116,7 @@ module _ (c : Card) (G : Guarantees c) (frames : List ℕ) (t f : ℕ) (hf : f �
       (le-or-lt a (c .m))
 
   -- the registers after the frame
-  pub taken-in : {after : Registers} {held : ℕ} → TakenIn (generatorSums (c .generators)) (c .k) (c .p) (c .m) f r after held → With c frames t after
+  pub taken-in : {after : Registers} {held : ℕ} → TakenIn sums (c .k) (c .p) (c .m) f r after held → With c frames t after
   taken-in T =
       record {
         coming-at = λ j a hj. ap (λ l. bit (getD l j 0) a) (T .coming-is) ∙ ap (λ x. bit x a) (part-at _ (r .coming) (c .p) j hj) ∙ coming-bit j a hj;

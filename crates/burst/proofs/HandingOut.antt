@@ -10,7 +10,7 @@ use Rattle.bits.specs.Sums.{upTo}
 use Rattle.bits.proofs.Lists.{part-at, part-length, part-step}
 use Rattle.code.specs.declared.Card.{Card}
 use Rattle.majority.specs.Rule.{decided, corrected, decoded}
-use Rattle.burst.specs.Registers.{Registers, registers, generatorSums, written, TakenIn, takenOut, Corrected, correctedBy}
+use Rattle.burst.specs.Registers.{Registers, registers, written, TakenIn, takenOut, Corrected, correctedBy}
 use Rattle.burst.specs.Held.{With, Tables, cardWith, EveryCardWith, Carried, HandedOut}
 use Rattle.burst.proofs.Following.{taken-in}
 use Rattle.burst.proofs.Waiting.{start}
@@ -53,13 +53,13 @@ module _ (tables : Tables) (frames : List ℕ) where
       let c = cardWith number g tables in
       let m = tables .m in
       let both = handed g e number G B in
-      let W : With c frames t taken = taken-in c G frames t (getD frames t 0) refl now (both .0) (rw e at T) in
-      let D : Corrected (generatorSums g) (c .counts) (c .checks) (taken .syndromes) (c .k) (c .p) after errors = rw e at C in
+      let sums = tables .sums in
+      let W : With c frames t taken = taken-in c G sums e frames t (getD frames t 0) refl now (both .0) T in
       let f = corrected c frames (decided c frames (length frames - m)) in
       let n : t - m + 1 ≡ t + 1 - m = omega arith in (
-        rw add-one (fed-back c G frames t taken W hm after errors D),
+        rw add-one (fed-back c G frames t taken W hm sums e after errors C),
         part-step f output₀ (t - m) output v (omega arith) (both .1)
-            (q ∙ handed-out c G frames t taken W hm after errors D (length frames - m) (omega arith))
+            (q ∙ handed-out c G frames t taken W hm sums e after errors C (length frames - m) (omega arith))
             ∙ ap (λ x. written x f output₀) n,
       )
 

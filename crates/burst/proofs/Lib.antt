@@ -1,5 +1,6 @@
 pub mod Answers
 pub mod Sending
+pub mod Summing
 pub mod TakingIn
 pub mod Coming
 pub mod Following

@@ -80,4 +80,4 @@ pub wait-more : (tables : Tables) (frames : List ℕ) (t : ℕ) {before now afte
     → Carried tables frames t before now → Carried tables frames (t + 1) before after
 wait-more tables frames t {now = now} h T carried g e number G B =
     let c = cardWith number g tables in
-    rw add-one (waiting c frames t h (taken-in c G frames t (getD frames t 0) refl now (carried g e number G B) (rw e at T)))
+    rw add-one (waiting c frames t h (taken-in c G (tables .sums) e frames t (getD frames t 0) refl now (carried g e number G B) T))

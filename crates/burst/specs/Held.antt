@@ -1,7 +1,7 @@
 -- What the registers of the burst receiver hold of a stream: by this they follow the rule. Nobody has to believe this file: it states why the
 -- receiver works, and its promise does not speak of it.
 -- Assumes nothing.
-use Prim.Native.Nat.{ℕ, suc, _+_, _-_, _*_, _%_, _<_}
+use Prim.Native.Nat.{ℕ, suc, _+_, _-_, _*_, _%_, _^_, _<_}
 use mathlib.Core.Path.{_≡_}
 use mathlib.Core.Bool.{cond}
 use mathlib.Core.List.{List}
@@ -12,7 +12,7 @@ use Rattle.bits.specs.Digits.{bit}
 use Rattle.code.specs.Code.{generator, digit}
 use Rattle.code.specs.declared.Card.{Card}
 use Rattle.majority.specs.Rule.{cleared, decided, corrected}
-use Rattle.burst.specs.Registers.{Registers, generatorSums, written}
+use Rattle.burst.specs.Registers.{Registers, HasSums, written}
 use Rattle.burst.specs.Parts.{cardOf, EveryCard}
 
 -- the part of parity digit j at t + a that the information digits of times before t give
@@ -53,7 +53,7 @@ cardWith number generators T = cardOf number generators (T .counts) (T .checks) 
 
 -- every accepted card with these tables has the property
 abbrev pub EveryCardWith : Tables → (Card → Type 0) → Type 0
-EveryCardWith T P = (generators : List ℕ) → T .sums ≡ generatorSums generators → EveryCard generators (T .counts) (T .checks) (T .k) (T .p) (T .m) P
+EveryCardWith T P = (generators : List ℕ) → HasSums generators (T .k) (T .p) (2 ^ T .k) (T .sums) → EveryCard generators (T .counts) (T .checks) (T .k) (T .p) (T .m) P
 
 -- registers that were ready for the frame of time 0 are ready for that of time t now
 abbrev pub Carried : Tables → List ℕ → ℕ → Registers → Registers → Type 0

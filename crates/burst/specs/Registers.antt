@@ -19,13 +19,13 @@ pub record Registers : Type 0 where
 abbrev pub registers : List ℕ → List ℕ → Registers
 registers coming syndromes = record { coming = coming; syndromes = syndromes }
 
--- the exclusive or of the generators, on parity stream j, of the information streams in x
-unfoldable pub generatorSum : List ℕ → ℕ → ℕ → ℕ
-generatorSum g x j = xorBelow 4 (λ i. getD g (i * 8 + j) 0 * bit x i)
+-- the exclusive or of the generators, on parity stream j, of those of the k information streams that are in x
+unfoldable pub generatorSum : List ℕ → ℕ → ℕ → ℕ → ℕ
+generatorSum g k x j = xorBelow k (λ i. getD g (i * 8 + j) 0 * bit x i)
 
--- these sums, that of x and j at x * 8 + j
-unfoldable pub generatorSums : List ℕ → List ℕ
-generatorSums g = upTo 128 (λ at. generatorSum g (at / 8) (at % 8))
+-- the table has the sums of each x below n on p parity streams, that of x and j at x * 8 + j
+abbrev pub HasSums : List ℕ → ℕ → ℕ → ℕ → List ℕ → Type 0
+HasSums g k p n sums = (x j : ℕ) → x < n → j < p → getD sums (x * 8 + j) 0 ≡ generatorSum g k x j
 
 -- register j of the parity to come, with the information digits of frame f
 unfoldable pub parityWith : List ℕ → List ℕ → ℕ → ℕ → ℕ → ℕ

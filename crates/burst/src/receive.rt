@@ -93,7 +93,7 @@ fn receive_frames<'a>(
     if input.len() < m {
         return;
     }
-    let sums = generator_sums(generators);
+    let sums = generator_sums(generators, k, p);
     let mut syndromes = [0u32; 8];
     let mut coming = [0u32; 8];
     fill(&mut syndromes, &mut coming, &sums, k, p, m, input);

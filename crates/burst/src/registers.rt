@@ -6,7 +6,7 @@ ghost use Prim.Native.Nat.{ℕ, _+_, _/_, _%_, _^_, _<_, _≤_};
 ghost use lib.ListN.{getD, length};
 ghost use lib.Bits.{bitXor};
 ghost use Rattle.bits.specs.Digits.{shiftUp};
-ghost use Rattle.burst.specs.Registers.{registers, generatorSum, generatorSums, TakenIn, written, takenOut, Corrected, correctedBy};
+ghost use Rattle.burst.specs.Registers.{registers, generatorSum, HasSums, TakenIn, written, takenOut, Corrected, correctedBy};
 
 // Streams 1 to k of a frame.
 fn information(frame: u8, k: usize) -> u32
@@ -17,28 +17,45 @@ fn information(frame: u8, k: usize) -> u32
 }
 
 // The exclusive or of the generators, on parity stream j, of the information streams in x.
-fn generator_sum(generators: &[u32; 32], x: u32, j: usize) -> u32
-    requires { ⌜ j < 8 ⌝ }
-    ensures { λ r. ⌜ r ≡ generatorSum (now (generators .entry)) x j ⌝ }
+fn generator_sum(generators: &[u32; 32], k: usize, x: u32, j: usize) -> u32
+    requires { ⌜ (k ≤ 4) × (j < 8) ⌝ }
+    ensures { λ r. ⌜ r ≡ generatorSum (now (generators .entry)) k x j ⌝ }
 {
     let mut sum: u32 = 0;
     let mut i = 0;
-    while i < 4 {
+    while i < k {
         sum = sum ^ bits::word(generators, i * 8 + j) * bits::digit(x, i);
         i += 1;
     }
     sum
 }
 
-// That sum for each x and j, at x * 8 + j.
-pub(crate) fn generator_sums(generators: &[u32; 32]) -> [u32; 128]
-    ensures { λ r. ⌜ r ≡ generatorSums (now (generators .entry)) ⌝ }
+// The sums of x on each parity stream, put into the table behind those of every x before it.
+fn put_sums(sums: &mut [u32; 128], generators: &[u32; 32], k: usize, p: usize, x: u32)
+    requires { ⌜ (k ≤ 4) × (p ≤ 8) × (x < 16) × (length (now sums) ≡ 128) ⌝ }
+    requires { ⌜ HasSums (now generators) k p x (now sums) ⌝ }
+    ensures { λ r. ⌜ length (now (sums .exit)) ≡ 128 ⌝ }
+    ensures { λ r. ⌜ HasSums (now (generators .entry)) k p (x + 1) (now (sums .exit)) ⌝ }
+{
+    let at = bits::index(x) * 8;
+    let mut j = 0;
+    while j < p {
+        sums[at + j] = generator_sum(generators, k, x, j);
+        j += 1;
+    }
+}
+
+// The sum for each x of k digits and each parity stream j, at x * 8 + j. Only what the card states is worked out, half of the
+// table at most.
+pub(crate) fn generator_sums(generators: &[u32; 32], k: usize, p: usize) -> [u32; 128]
+    requires { ⌜ (k ≤ 4) × (p ≤ 8) ⌝ }
+    ensures { λ r. ⌜ HasSums (now (generators .entry)) k p (2 ^ k) r ⌝ }
 {
     let mut sums = [0u32; 128];
-    let mut at: u32 = 0;
-    while at < 128 {
-        sums[bits::index(at)] = generator_sum(generators, at / 8, bits::index(at % 8));
-        at += 1;
+    let mut x: u32 = 0;
+    while x < 1 << k {
+        put_sums(&mut sums, generators, k, p, x);
+        x += 1;
     }
     sums
 }

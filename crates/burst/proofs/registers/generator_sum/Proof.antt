@@ -14,10 +14,10 @@ use Rattle.burst.proofs.registers.generator_sum.Statement.{statement}
 use Rattle.burst.proofs.registers.generator_sum.Tie as tie
 
 abbrev Inv-loop : tie.InvT-loop
-Inv-loop generators x j sum₀ i₀ sum i = (i ≤ 4) × (sum ≡ xorBelow i (λ a. getD generators (a * 8 + j) 0 * bit x a))
+Inv-loop generators k x j sum₀ i₀ sum i = (i ≤ k) × (sum ≡ xorBelow i (λ a. getD generators (a * 8 + j) 0 * bit x a))
 
 abbrev μ-loop : tie.MeasureT-loop
-μ-loop generators x j sum₀ i₀ sum i = 4 - i
+μ-loop generators k x j sum₀ i₀ sum i = k - i
 
 loop-holds : tie.Need-loop-holds Inv-loop μ-loop
 unfolding xorBelow

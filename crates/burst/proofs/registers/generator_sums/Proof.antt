@@ -1,64 +1,54 @@
--- The loop has filled the entries that it passed.
-use Prim.Native.Nat.{ℕ, _-_, _/_, _%_, _≤_}
-use mathlib.Core.Path.{_≡_, refl, ap, _∙_}
+-- The loop has put in the sums of each x that it passed.
+use Prim.Native.Nat.{_-_, _^_, _≤_}
+use mathlib.Core.Path.{_≡_, refl}
+use native.Mathlib.Nat.{le-antisymm}
 use native.Mathlib.Omega.{arith}
-use lib.ListN.{length, take, length-set}
-use Rattle.bits.specs.Sums.{upTo}
-use Rattle.bits.proofs.Lists.{fill-step, fill-end}
-use Rattle.burst.specs.Registers.{generatorSum, generatorSums}
+use lib.ListN.{length}
+use borrow.Author.Needs.{needs}
+use Rattle.burst.specs.Registers.{HasSums}
+use Rattle.burst.proofs.Summing.{size-is, turn-of}
 use Rattle.burst.proofs.registers.generator_sums.Statement.{statement}
 use Rattle.burst.proofs.registers.generator_sums.Tie as tie
 
 abbrev Inv-loop : tie.InvT-loop
-Inv-loop generators sums₀ at₀ sums at =
-    (at ≤ 128) × (length sums ≡ 128) × (take at sums ≡ upTo at (λ x. generatorSum generators (x / 8) (x % 8)))
+Inv-loop generators k p sums₀ x₀ sums x = (x ≤ 2 ^ k) × (length sums ≡ 128) × HasSums generators k p x sums
 
 abbrev μ-loop : tie.MeasureT-loop
-μ-loop generators sums₀ at₀ sums at = 128 - at
+μ-loop generators k p sums₀ x₀ sums x = 2 ^ k - x
 
 loop-holds : tie.Need-loop-holds Inv-loop μ-loop
-unfolding upTo
-loop-holds c = (omega arith, refl, refl)
+loop-holds c = (omega arith, refl, λ y b l. absurd (omega arith))
 
-index-requires : tie.Need-index-requires Inv-loop μ-loop
-index-requires c κs = tt
+cast-loop : tie.Need-cast-loop Inv-loop μ-loop
+cast-loop c = search needs
 
-generator-sum-requires : tie.Need-generator-sum-requires Inv-loop μ-loop
-generator-sum-requires c κs = omega arith
+shl-loop : tie.Need-shl-loop Inv-loop μ-loop
+shl-loop c = search needs
 
-index-requires-2 : tie.Need-index-requires-2 Inv-loop μ-loop
-index-requires-2 c κs = tt
+put-sums-requires : tie.Need-put-sums-requires Inv-loop μ-loop
+put-sums-requires c κs =
+    let h = c .before .before .before .pre in
+    let l = c .before .before .loop in
+    ((h .0, h .1, turn-of _ _ (h .0) (c .before .loop-test .taken) .1, l .inv .1), l .inv .2)
 
-mul-sums : tie.Need-mul-sums Inv-loop μ-loop
-mul-sums c = omega arith
-
-array-write-sums : tie.Need-array-write-sums Inv-loop μ-loop
-array-write-sums c = omega arith
-
-add-at : tie.Need-add-at Inv-loop μ-loop
-add-at c = omega arith
+add-x : tie.Need-add-x Inv-loop μ-loop
+add-x c = omega (arith, turn-of _ _ (c .before .before .before .before .pre .0) (c .before .before .loop-test .taken))
 
 loop-less : tie.Need-loop-less Inv-loop μ-loop
-loop-less c = omega arith
+loop-less c = omega (arith, turn-of _ _ (c .before .before .before .before .pre .0) (c .before .before .loop-test .taken))
 
 loop-again : tie.Need-loop-again Inv-loop μ-loop
-loop-again c =
-    let l = c .before .before .before .before .loop in
-    let g = c .before .before .before .before .before .args .generators .now in
-    let f : ℕ → ℕ = λ x. generatorSum g (x / 8) (x % 8) in
-    let v = c .before .generator-sum .result in
-    let e : v ≡ f (l .at) = c .before .generator-sum .ensures ∙ ap (λ (j : ℕ). generatorSum g (l .at / 8) j) (c .before .before .index .ensures) in
-    rw (c .index2 .ensures) (
-      omega arith,
-      length-set (l .sums) (l .at) v ∙ l .inv .1,
-      fill-step (l .at) f (l .sums) (omega arith) (l .inv .2) e,
-    )
+loop-again c = (
+  omega (arith, turn-of _ _ (c .before .before .before .before .pre .0) (c .before .before .loop-test .taken)),
+  c .put-sums .ensures .0,
+  c .put-sums .ensures .1,
+)
 
 returns : tie.Need-returns Inv-loop μ-loop
-unfolding generatorSums
 returns c =
     let l = c .before .loop in
-    fill-end (l .at) 128 _ (l .sums) (l .inv .1) (l .inv .0) (c .loop-test .left) (l .inv .2)
+    let e : l .x ≡ 2 ^ c .before .before .args .k = le-antisymm (l .inv .0) (rw (size-is _ (c .before .before .pre .0)) at (c .loop-test .left)) in
+    rw e at (l .inv .2)
 
 pub generator-sums-spec : {M : Type 1} → statement M
 generator-sums-spec =
@@ -67,12 +57,10 @@ generator-sums-spec =
     Inv-loop
     μ-loop
     loop-holds
-    index-requires
-    generator-sum-requires
-    index-requires-2
-    mul-sums
-    array-write-sums
-    add-at
+    cast-loop
+    shl-loop
+    put-sums-requires
+    add-x
     loop-less
     loop-again
     returns)

@@ -1,9 +1,8 @@
-use Prim.Native.Nat.{ℕ, _*_, _%_, _^_, _≤_}
-use mathlib.Core.Path.{_≡_, refl, _∙_}
+use mathlib.Core.Path.{refl}
 use native.Mathlib.Nat.{mod-lt, lt-of-lt-of-le}
-use native.Mathlib.Omega.{arith}
-use lib.Pow.{pow-pos, pow-mono, shl-exact}
+use lib.Pow.{pow-pos, pow-mono}
 use borrow.Author.Needs.{needs}
+use Rattle.burst.proofs.Summing.{size-is}
 use Rattle.burst.proofs.registers.information.Statement.{statement}
 use Rattle.burst.proofs.registers.information.Tie as tie
 
@@ -15,10 +14,6 @@ cast-result c = search needs
 
 shl-result : tie.Need-shl-result
 shl-result c = search needs
-
--- the mask's size is not cut
-size-is : (k : ℕ) → k ≤ 4 → 1 * 2 ^ k % 2 ^ 32 ≡ 2 ^ k
-size-is k h = shl-exact {a = 1} 1 k 32 (omega arith) (omega arith) ∙ omega arith
 
 rem-result : tie.Need-rem-result
 rem-result c = rw (size-is (c .before .args .k) (c .before .pre)) (pow-pos (c .before .args .k))

@@ -4,7 +4,6 @@ use mathlib.Core.Path.{_≡_, refl, _∙_}
 use native.Mathlib.Omega.{arith}
 use lib.ListN.{length, length-set}
 use Rattle.bits.specs.Sums.{upTo}
-use Rattle.code.specs.Code.{withTail}
 use Rattle.code.proofs.Registers.{frame-fits}
 use Rattle.code.proofs.Registers.{history-start}
 use Rattle.burst.specs.Parts.{cardOf, EveryCode}
