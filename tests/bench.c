@@ -1,8 +1,10 @@
-/* Measures burst_send and burst_receive against the plain C of plain.c, in one run and as a ratio, so that the
- * machine matters little. No test: it fails only if the two give other frames.
+/* Measures the library against the plain C of plain.h, in one run and as a ratio, so that the machine matters little:
+ * the reading of a card, short bursts and long ones. Both read and test the card in every burst.
  *
- * Each time is the least of several turns, the two taken in turn. The card is read once a burst by the library and
- * not at all by the plain C; the bursts are long enough for that not to show, and the reading is timed by itself. */
+ * No test of time: it fails only if the two give other answers or frames, or refuse other cards.
+ *
+ * Each time is the least of many turns, the library and the plain C taken in turn for a quarter of a second: long enough
+ * for most of what else the machine does to be over. */
 #define _POSIX_C_SOURCE 200809L
 #include "burst.h"
 
@@ -15,25 +17,22 @@
 #include <string.h>
 #include <time.h>
 
-enum { FRAMES = 65536, TURNS = 15, READINGS = 200 };
+enum {
+    LONG_BURST = 65536, /* information frames */
+    SHORT_BURST = 64,   /* frames as sent, the tail included */
+    CARD_ROUNDS = 4000, /* of four cards each, on which the readers are compared */
+    MOST_ADDED = 4      /* bytes after a card */
+};
 
 struct subject {
     const char *name;
     uint8_t card[MOST_CARD_BYTES];
     size_t card_length;
     struct fields fields;
-    struct plain_card plain;
 };
 
-static uint8_t information[FRAMES], sent[FRAMES + MOST_MEMORY], received[FRAMES + MOST_MEMORY];
-static uint8_t by_library[FRAMES + MOST_MEMORY], by_plain[FRAMES + MOST_MEMORY];
-
-static double now_ns(void)
-{
-    struct timespec t;
-    clock_gettime(CLOCK_MONOTONIC, &t);
-    return 1e9 * (double)t.tv_sec + (double)t.tv_nsec;
-}
+static uint8_t information[LONG_BURST], sent[LONG_BURST + MOST_MEMORY], received[LONG_BURST + MOST_MEMORY];
+static uint8_t by_library[LONG_BURST + MOST_MEMORY], by_plain[LONG_BURST + MOST_MEMORY];
 
 static void must(int holds, const char *what)
 {
@@ -43,109 +42,290 @@ static void must(int holds, const char *what)
     }
 }
 
-static void keep_least(double *least, double started)
+/* ---- Whether the two readers agree ---- */
+
+static long cards_by_answer[11]; /* by the refusal's number; 0, accepted */
+
+static void print_card(const uint8_t *card, size_t length)
 {
-    double took = now_ns() - started;
+    printf("a card of %zu bytes:", length);
+    for (size_t b = 0; b < length; b++)
+        printf(" %02x", card[b]);
+    printf("\n");
+}
+
+/* An empty burst is answered with 0 or minus the card's refusal. Where in the card the refusal is, the library's calls
+ * don't tell; the plain reader's places are set against the reference's. */
+static void compare_readers(const uint8_t *card, size_t length)
+{
+    static struct plain_card plain;
+    static struct fields fields;
+    size_t offset;
+    int refused = plain_read(card, length, &plain, &offset);
+    int32_t answer = burst_receive(card, length, NULL, 0, NULL, 0);
+    struct card_answer reference = reference_read_card(card, length, &fields);
+    int same_place = reference.refusal == refused && (refused == 0 || reference.offset == offset);
+    if (answer != -refused || !same_place)
+        print_card(card, length);
+    must(answer == -refused, "the library and the plain reader give the same number for a card");
+    must(same_place, "the reference and the plain reader give the same number and offset for a card");
+    cards_by_answer[refused]++;
+}
+
+/* Cuts a card short, adds bytes to it or changes one. Gives its length then. */
+static size_t damage(struct random *r, uint8_t *card, size_t length)
+{
+    switch (below(r, 4)) {
+    case 0:
+        return (size_t)below(r, (int)length);
+    case 1:
+        for (int added = between(r, 1, MOST_ADDED); added > 0; added--)
+            card[length++] = (uint8_t)below(r, 256);
+        return length;
+    case 2: /* near the front, where the sizes are */
+        card[below(r, 5)] = (uint8_t)below(r, 12);
+        return length;
+    default:
+        card[below(r, (int)length)] ^= (uint8_t)between(r, 1, 255);
+        return length;
+    }
+}
+
+static void compare_on_fields(struct random *r, const struct fields *fields)
+{
+    uint8_t card[MOST_CARD_BYTES + MOST_ADDED];
+    int state_k = one_in(r, 2), state_n = one_in(r, 2);
+    size_t length = card_bytes(fields, state_k, state_n, card);
+    compare_readers(card, length);
+    length = damage(r, card, length);
+    compare_readers(card, length);
+}
+
+static void compare_on_cuts(const struct subject *s)
+{
+    for (size_t length = 0; length <= s->card_length; length++)
+        compare_readers(s->card, length);
+}
+
+static void print_agreement(void)
+{
+    long cards = 0;
+    for (int number = 0; number <= 10; number++)
+        cards += cards_by_answer[number];
+    printf("The readers agree on %ld cards: %ld accepted, and refused", cards, cards_by_answer[0]);
+    for (int number = 1; number <= 10; number++) {
+        must(cards_by_answer[number] > 0, "every refusal of a card is met");
+        printf("%s %d: %ld", number == 1 ? "" : ",", number, cards_by_answer[number]);
+    }
+    printf("\n");
+}
+
+static void compare_on_random_cards(void)
+{
+    static struct fields fields;
+    struct random r = {3};
+    for (int round = 0; round < CARD_ROUNDS; round++) {
+        random_card(&r, &fields);
+        compare_on_fields(&r, &fields);
+        spoil_card(&r, &fields);
+        compare_on_fields(&r, &fields);
+    }
+}
+
+/* ---- What is measured ---- */
+
+/* A call that both make, answered as burst.h says; the frames go to by_library and by_plain. */
+struct call {
+    const struct subject *subject;
+    const uint8_t *input;
+    size_t input_length;
+    int32_t answer;
+};
+
+typedef int32_t way(const struct call *call);
+
+static int32_t library_reads(const struct call *c)
+{
+    return burst_receive(c->subject->card, c->subject->card_length, NULL, 0, NULL, 0);
+}
+
+static int32_t library_sends(const struct call *c)
+{
+    return burst_send(c->subject->card, c->subject->card_length, c->input, c->input_length,
+                      by_library, sizeof by_library);
+}
+
+static int32_t library_receives(const struct call *c)
+{
+    return burst_receive(c->subject->card, c->subject->card_length, c->input, c->input_length,
+                         by_library, sizeof by_library);
+}
+
+static int plain_reads_into(const struct call *c, struct plain_card *card)
+{
+    size_t offset;
+    int refused = plain_read(c->subject->card, c->subject->card_length, card, &offset);
+    /* As if both were looked at, lest the compiler leave out what nobody uses. */
+    __asm__ volatile("" : : "r"(card), "r"(&offset) : "memory");
+    return refused;
+}
+
+static int32_t plain_reads(const struct call *c)
+{
+    struct plain_card card;
+    return -plain_reads_into(c, &card);
+}
+
+static int32_t plain_sends(const struct call *c)
+{
+    struct plain_card card;
+    int refused = plain_reads_into(c, &card);
+    return refused ? -refused : (int32_t)plain_send(&card, c->input, c->input_length, by_plain);
+}
+
+static int32_t plain_receives(const struct call *c)
+{
+    struct plain_card card;
+    int refused = plain_reads_into(c, &card);
+    return refused ? -refused : (int32_t)plain_receive(&card, c->input, c->input_length, by_plain);
+}
+
+/* ---- Measuring ---- */
+
+struct times {
+    double library, plain; /* ns a call */
+};
+
+/* Calls in a turn: the clock is too coarse for a single short one. */
+enum { IF_SHORT = 20, IF_LONG = 1 };
+
+static const double row_ns = 0.25e9;
+
+static double now_ns(void)
+{
+    struct timespec t;
+    clock_gettime(CLOCK_MONOTONIC, &t);
+    return 1e9 * (double)t.tv_sec + (double)t.tv_nsec;
+}
+
+static void take_turn(way *make, const struct call *call, int calls, double *least)
+{
+    double started = now_ns();
+    for (int c = 0; c < calls; c++)
+        must(make(call) == call->answer, "every call has the answer that it should");
+    double took = (now_ns() - started) / calls;
     if (*least == 0 || took < *least)
         *least = took;
 }
 
-static void print_row(const struct subject *s, const char *what, double library, double plain, long frames)
+static struct times measure(way *library, way *plain, const struct call *call, int calls)
 {
-    printf("%-9s %-22s %8.1f %8.1f %7.2f\n", s->name, what, library / (double)frames, plain / (double)frames, library / plain);
+    struct times least = {0, 0};
+    double started = now_ns();
+    do {
+        take_turn(library, call, calls, &least.library);
+        take_turn(plain, call, calls, &least.plain);
+    } while (now_ns() - started < row_ns);
+    must(memcmp(by_library, by_plain, (size_t)call->answer) == 0, "both give the same frames");
+    return least;
 }
 
-static void measure_sending(const struct subject *s)
+static void print_row(const struct subject *s, const char *what, struct times t, double parts)
 {
-    double library = 0, plain = 0, started;
-    int32_t whole = FRAMES + s->fields.m;
-    for (int turn = 0; turn < TURNS; turn++) {
-        started = now_ns();
-        must(burst_send(s->card, s->card_length, information, FRAMES, sent, sizeof sent) == whole, "the library sends");
-        keep_least(&library, started);
-        started = now_ns();
-        must(plain_send(&s->plain, information, FRAMES, by_plain) == whole, "the plain C sends");
-        keep_least(&plain, started);
-    }
-    must(memcmp(sent, by_plain, (size_t)whole) == 0, "both send the same");
-    print_row(s, "send", library, plain, whole);
+    printf("%-9s %-26s %8.1f %8.1f %7.2f\n", s->name, what, t.library / parts, t.plain / parts, t.library / t.plain);
 }
 
-static void measure_receiving(const struct subject *s, struct random *r, int in_hundred)
+/* ---- The tables ---- */
+
+static void reading_row(const struct subject *s)
 {
-    double library = 0, plain = 0, started;
-    size_t whole = FRAMES + (size_t)s->fields.m;
-    char what[32];
-    memcpy(received, sent, whole);
-    for (size_t u = 0; u < whole; u++)
+    struct call call = {s, NULL, 0, 0};
+    char what[64];
+    int length = snprintf(what, sizeof what, "%zu bytes, J", s->card_length);
+    for (int i = 1; i <= s->fields.k; i++)
+        length += snprintf(what + length, sizeof what - (size_t)length, " %d", s->fields.J[i]);
+    print_row(s, what, measure(library_reads, plain_reads, &call, IF_SHORT), 1);
+}
+
+/* Sends random information, and leaves what was sent for `receiving`. */
+static struct times sending(const struct subject *s, struct random *r, int frames, int calls)
+{
+    struct call call = {s, information, (size_t)frames, frames + s->fields.m};
+    for (int u = 0; u < frames; u++)
+        information[u] = (uint8_t)below(r, 1 << s->fields.k);
+    struct times least = measure(library_sends, plain_sends, &call, calls);
+    memcpy(sent, by_library, (size_t)call.answer);
+    return least;
+}
+
+static struct times receiving(const struct subject *s, struct random *r, int frames, int in_hundred, int calls)
+{
+    struct call call = {s, received, (size_t)(frames + s->fields.m), frames};
+    memcpy(received, sent, call.input_length);
+    for (size_t u = 0; u < call.input_length; u++)
         for (int stream = 0; stream < s->fields.n; stream++)
             if (below(r, 100) < in_hundred)
                 received[u] ^= (uint8_t)(1 << stream);
-    for (int turn = 0; turn < TURNS; turn++) {
-        started = now_ns();
-        must(burst_receive(s->card, s->card_length, received, whole, by_library, FRAMES) == FRAMES, "the library receives");
-        keep_least(&library, started);
-        started = now_ns();
-        must(plain_receive(&s->plain, received, whole, by_plain) == FRAMES, "the plain C receives");
-        keep_least(&plain, started);
-    }
-    must(memcmp(by_library, by_plain, FRAMES) == 0, "both receive the same");
-    snprintf(what, sizeof what, "receive, %d%% wrong", in_hundred);
-    print_row(s, what, library, plain, (long)whole);
+    return measure(library_receives, plain_receives, &call, calls);
 }
 
-static double reading_ns(const struct subject *s)
+static void short_burst_rows(const struct subject *s)
 {
-    double least = 0;
-    for (int turn = 0; turn < READINGS; turn++) {
-        double started = now_ns();
-        must(burst_receive(s->card, s->card_length, NULL, 0, NULL, 0) == 0, "an empty burst");
-        keep_least(&least, started);
+    struct random r = {2};
+    int frames = SHORT_BURST - s->fields.m;
+    print_row(s, "send", sending(s, &r, frames, IF_SHORT), 1);
+    print_row(s, "receive", receiving(s, &r, frames, 0, IF_SHORT), 1);
+}
+
+static void long_burst_rows(const struct subject *s)
+{
+    static const int wrong[] = {0, 1, 10};
+    struct random r = {2};
+    double whole = LONG_BURST + s->fields.m;
+    print_row(s, "send", sending(s, &r, LONG_BURST, IF_LONG), whole);
+    for (int w = 0; w < 3; w++) {
+        char what[32];
+        snprintf(what, sizeof what, "receive, %d%% wrong", wrong[w]);
+        print_row(s, what, receiving(s, &r, LONG_BURST, wrong[w], IF_LONG), whole);
     }
-    return least;
 }
 
 /* ---- The run ---- */
 
-static void open_subject(struct subject *s, const char *name)
+enum { SUBJECTS = 6 };
+
+static struct subject subjects[SUBJECTS] = {
+    {.name = "P"}, {.name = "Q"}, {.name = "R"}, {.name = "T"}, {.name = "k3n6m12"}, {.name = "1163 B"}};
+
+static void open_subject(struct subject *s)
 {
     struct random r = {1};
-    s->name = name;
-    if (name[1] == '\0')
-        bench_card(name[0], &s->fields);
-    else
+    if (s->name[1] == '\0')
+        bench_card(s->name[0], &s->fields);
+    else if (s->name[0] == 'k')
         random_card_of_shape(&r, 3, 6, 12, MOST_CHECKS, 4, &s->fields);
+    else
+        longest_card(&s->fields);
     s->card_length = card_bytes(&s->fields, 0, 0, s->card);
-    plain_read(s->card, &s->plain);
 }
 
-static void measure(struct subject *s)
+static void print_table(const char *head, void (*print_rows)(const struct subject *))
 {
-    struct random r = {2};
-    for (int u = 0; u < FRAMES; u++)
-        information[u] = (uint8_t)below(&r, 1 << s->fields.k);
-    measure_sending(s);
-    measure_receiving(s, &r, 0);
-    measure_receiving(s, &r, 1);
-    measure_receiving(s, &r, 10);
+    printf("\n%-36s %8s %8s %7s\n", head, "library", "plain C", "ratio");
+    for (int s = 0; s < SUBJECTS; s++)
+        print_rows(&subjects[s]);
 }
 
 int main(void)
 {
-    static const char *names[] = {"P", "Q", "R", "T", "k3n6m12"};
-    static struct subject subjects[5];
-    printf("ns a frame                        library  plain C   ratio\n");
-    for (int s = 0; s < 5; s++) {
-        open_subject(&subjects[s], names[s]);
-        measure(&subjects[s]);
+    for (int s = 0; s < SUBJECTS; s++) {
+        open_subject(&subjects[s]);
+        compare_on_cuts(&subjects[s]);
     }
-    printf("\ncard      bytes  checks        ns to read it\n");
-    for (int s = 0; s < 5; s++) {
-        const struct subject *subject = &subjects[s];
-        printf("%-9s %5zu  ", subject->name, subject->card_length);
-        for (int i = 1; i <= 4; i++)
-            printf("%2d ", subject->fields.J[i]);
-        printf("%15.0f\n", reading_ns(subject));
-    }
+    compare_on_random_cards();
+    print_agreement();
+    print_table("ns to read a card", reading_row);
+    print_table("ns a burst of 64 frames", short_burst_rows);
+    print_table("ns a frame of 65,536 and the tail", long_burst_rows);
     return 0;
 }

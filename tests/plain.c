@@ -1,41 +1,5 @@
 #include "plain.h"
 
-#include <string.h>
-
-static uint32_t mask_at(const uint8_t *b)
-{
-    return (uint32_t)b[0] | (uint32_t)b[1] << 8 | (uint32_t)b[2] << 16 | (uint32_t)b[3] << 24;
-}
-
-void plain_read(const uint8_t *b, struct plain_card *card)
-{
-    memset(card, 0, sizeof *card);
-    int map = b[0];
-    b += 2;
-    card->k = map & 1 ? *b++ : 1;
-    card->p = (map & 2 ? *b++ : 2) - card->k;
-    card->m = *b++;
-    unsigned generators = b[0] | (unsigned)b[1] << 8;
-    b += 2;
-    for (int i = 0; i < card->k; i++)
-        for (int j = 0; j < card->p; j++)
-            if (generators >> (i * card->p + j) & 1) {
-                card->generators[i][j] = mask_at(b);
-                b += 4;
-            }
-    for (int i = 0; i < card->k; i++) {
-        card->counts[i] = *b++;
-        for (int q = 0; q < card->counts[i]; q++) {
-            int parities = *b++;
-            for (int j = 0; j < card->p; j++)
-                if (parities >> j & 1) {
-                    card->checks[i][q][j] = mask_at(b);
-                    b += 4;
-                }
-        }
-    }
-}
-
 static int any_beyond(const uint8_t *in, size_t count, int streams)
 {
     for (size_t u = 0; u < count; u++)
