@@ -4,8 +4,9 @@ use Rattle.bits.specs.Sums.{sumBelow, upTo, back, grown}
 use Rattle.bits.specs.Digits.{bit, fromDigits, anyBeyond}
 use Rattle.code.specs.Code.{generator, digit, parityAt, withTail, sentDigit, sentFrame, sent}
 use Rattle.code.specs.Checks.{count, checkMask, touchesInfo, touchesBy, besides}
+use Rattle.code.specs.Judging.{clashes, judge}
 use Rattle.card.specs.Fields.{store, storeRows, storeChecks, storeStreams, storeCounts, cardOf}
-use Rattle.card.specs.Reading.{byteField, kField, nField, mapField, wordAt, maskField, readHead, standingMask, readMasks, readRows, readGenerators, touchedBy, clashes, judge, readCheck, readChecks, readStreams, readFields, readCard}
+use Rattle.card.specs.Reading.{byteField, kField, nField, mapField, wordAt, maskField, readHead, standingMask, readMasks, readRows, readGenerators, touchedBy, readCheck, readChecks, readStreams, readFields, readCard}
 use Rattle.majority.specs.Rule.{syndrome, cleared, checkAt, votes, decide, decideFrame, decided, corrected, decoded}
 use Rattle.receiving.specs.Calls.{answersBy}
 use Rattle.outcomes.specs.Outcome.{refusedOf, givenOf, underCard}

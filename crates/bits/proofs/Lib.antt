@@ -5,3 +5,4 @@ pub mod Back
 pub mod Digits
 pub mod Words
 pub mod Held
+pub mod Terms

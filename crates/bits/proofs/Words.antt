@@ -1,11 +1,11 @@
--- The laws of 32-bit words: what two have in common, shifts, loops that add up masked words or digits at their places, and frames with a
+-- The laws of 32-bit words: shifts, loops that add up masked words or digits at their places, and frames with a
 -- digit beyond their streams.
 use Prim.Native.Nat.{ℕ, zero, suc, _+_, _-_, _*_, _/_, _%_, _^_, _≤_, _<_}
 use mathlib.Core.Path.{_≡_, refl, sym, ap, _∙_}
 use mathlib.Core.Bool.{Bool, true, false, _||_, or-false, or-assoc}
 use mathlib.Core.Logic.{⊎-elim}
 use mathlib.Core.List.{List}
-use native.Mathlib.Nat.{eq-or-lt-of-le, le-div-iff-mul-le, div-eq-of-lt, lt-of-le-of-lt, lt-of-lt-of-le, mul-assoc, mul-mod-left, mul-div-cancel, sub-add-cancel}
+use native.Mathlib.Nat.{eq-or-lt-of-le, le-div-iff-mul-le, div-eq-of-lt, lt-of-lt-of-le, mul-assoc, mul-mod-left, mul-div-cancel, sub-add-cancel}
 use native.Mathlib.Numerals.{add-one}
 use native.Mathlib.Omega.{arith}
 use lib.Dec.{leb, ltb}
@@ -14,27 +14,11 @@ use lib.Seq.{drop-cons}
 use lib.Pow.{pow-pos, pow-add, pow-mono, shl-exact}
 use borrow.Author.Tests.{lt-ltb, le-leb, lt-leb, leb-true, leb-false}
 use lib.Bits.{bitAnd, bitOr, bitXor, and-le-l, and-le-r, and-lt, or-lt, or-add-and, xor-lt, xor-zero-r}
-use lib.Count.{ones, ones-le}
+use lib.Count.{ones}
 use Rattle.bits.specs.Sums.{sumBelow, xorBelow}
 use Rattle.bits.specs.Digits.{bit, fromDigits, dot, shiftUp, anyBeyond}
-use Rattle.bits.proofs.Sums.{sum-cong, sum-add, sum-cut, sum-mod, sum-more, sum-step}
-use Rattle.bits.proofs.Digits.{bit-and, bit-xor, bit-high, bit-mod, bit-shift, digits-lt, ones-sum}
-
--- the ones of both words
-pub ones-and : (x y : ℕ) → x < 2 ^ 32 → ones (bitAnd x y) ≡ dot x y
-unfolding dot
-ones-and x y h = ones-sum 32 (bitAnd x y) (lt-of-le-of-lt (and-le-l x y) h) ∙ sum-cong 32 (bit-and x y)
-
-pub ones-and-le : (x y : ℕ) → x < 2 ^ 32 → ones (bitAnd x y) ≤ 32
-ones-and-le x y h = ones-le 32 (bitAnd x y) (lt-of-le-of-lt (and-le-l x y) h)
-
--- what two words have in common, the first moved down by b and with no digit above m
-pub dot-shifted : (x y m b : ℕ) → m < 32 → b ≤ m → x < 2 ^ (m + 1) → dot (x / 2 ^ b) y ≡ sumBelow (m + 1 - b) (λ a. bit x (b + a) * bit y a)
-unfolding dot
-dot-shifted x y m b l h k =
-    sum-cong 32 (λ a. ap (λ n. n * bit y a) (bit-shift x b a))
-    ∙ sum-cut 32 (m + 1 - b) (λ a. bit x (b + a) * bit y a) (omega arith)
-    (λ a w. ap (λ n. n * bit y a) (bit-high x (m + 1) (b + a) k (omega arith)) ∙ omega arith)
+use Rattle.bits.proofs.Sums.{sum-add, sum-mod, sum-more, sum-step}
+use Rattle.bits.proofs.Digits.{bit-and, bit-xor, bit-mod, bit-shift, digits-lt, ones-sum}
 
 -- a shift by the width or more leaves nothing
 pub shift-out : (x a : ℕ) → 32 ≤ a → shiftUp x a ≡ 0

@@ -1,22 +1,15 @@
 // Digits of 32-bit words. Every function is total: beyond a word or a table there are zeros.
 ghost use mathlib.Core.Path.{_≡_};
-ghost use Prim.Native.Nat.{_/_, _^_, _<_, _≤_, min};
+ghost use Prim.Native.Nat.{_/_, _^_, _<_, min};
 ghost use lib.ListN.{getD};
 ghost use lib.Dec.{leb};
-ghost use Rattle.bits.specs.Digits.{bit, dot, shiftUp, anyBeyond};
+ghost use Rattle.bits.specs.Digits.{bit, shiftUp, anyBeyond};
 
 // Digit a of x.
 pub fn digit(x: u32, a: usize) -> u32
     ensures { λ r. ⌜ r ≡ bit x a ⌝ }
 {
     if a < 32 { (x >> a) % 2 } else { 0 }
-}
-
-// In how many places both words have a 1.
-pub fn ones_in_both(x: u32, y: u32) -> u32
-    ensures { λ r. ⌜ (r ≡ dot x y) × (r ≤ 32) ⌝ }
-{
-    u32::count_ones(x & y)
 }
 
 // x moved up by a places, what leaves the word lost.

@@ -13,7 +13,7 @@ use Rattle.code.specs.Code.{generator, digit}
 use Rattle.code.specs.declared.Card.{Card}
 use Rattle.majority.specs.Rule.{cleared, decided, corrected}
 use Rattle.burst.specs.Registers.{Registers, HasSums, written}
-use Rattle.burst.specs.Parts.{cardOf, EveryCard}
+use Rattle.burst.specs.Parts.{cardFrom, EveryCard}
 
 -- the part of parity digit j at t + a that the information digits of times before t give
 unfoldable pub comingAt : Card → List ℕ → ℕ → ℕ → ℕ → ℕ
@@ -49,7 +49,7 @@ tables sums counts checks k p m = record { sums = sums; counts = counts; checks 
 
 -- the card of this number with these generators and tables
 abbrev pub cardWith : ℕ → List ℕ → Tables → Card
-cardWith number generators T = cardOf number generators (T .counts) (T .checks) (T .k) (T .p) (T .m)
+cardWith number generators T = cardFrom number generators (T .counts) (T .checks) (T .k) (T .p) (T .m)
 
 -- every accepted card with these tables has the property
 abbrev pub EveryCardWith : Tables → (Card → Type 0) → Type 0

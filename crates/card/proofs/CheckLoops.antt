@@ -1,6 +1,6 @@
 -- What the loops of `read_checks` keep, and what they leave. r is the whole answer, c the card before its checks.
 use Prim.Native.Nat.{ℕ, _+_, _-_, _*_, _/_, _%_, _^_, _≤_, _<_, zero-le}
-use mathlib.Core.Path.{_≡_, refl, sym, ap, _∙_}
+use mathlib.Core.Path.{_≡_, refl, sym, ap, ap₂, _∙_}
 use mathlib.Core.List.{List, [], _∷_, _++_}
 use mathlib.Core.Logic.{⊎-elim}
 use native.Mathlib.Nat.{le-antisymm, mod-lt, zero-lt-suc}
@@ -10,21 +10,18 @@ use lib.Pow.{pow-pos}
 use lib.Seq.{getD-set-same, getD-set-other}
 use Rattle.bits.proofs.Cases.{same-or-not}
 use Rattle.bits.proofs.Lists.{zeros-at, snoc-last, snoc-other}
-use Rattle.orthogonal.specs.ErrorMasks.{errorsBy, judgeBy}
-use Rattle.orthogonal.specs.Judgements.{CheckJudged}
-use Rattle.orthogonal.specs.Judgements.CheckOutcome.{stands, fails}
-use Rattle.card.specs.Refusals.{numberOf}
-use Rattle.card.specs.Reading.{byteField, standingMask, judge}
+use Rattle.orthogonal.specs.Pass.{Passed, wordCode, streamsOf, paritiesOf, firstMasks}
+use Rattle.card.specs.Reading.{Read, mapRead, byteField, standingMask, judgeAfter, readStreams}
 use Rattle.card.specs.Reading.Field.{value, bad}
-use Rattle.card.specs.Parts.{checkNumber, PartOutcome, refusedPart}
+use Rattle.card.specs.Reading.Read.{got, fault}
+use Rattle.card.specs.Parts.{Tables, tablesWith}
 use Rattle.code.specs.declared.Card.{Card}
-use Rattle.card.specs.declared.Refusal.{Refusal}
 use Rattle.card.specs.declared.Verdict.{Verdict}
-use Rattle.card.specs.declared.Verdict.the-variants.{Accepted, Refused}
+use Rattle.card.specs.declared.Verdict.the-variants.{Accepted}
 use Rattle.card.proofs.Judging.{Union, union-none, judged-same, judged-union}
 use Rattle.card.proofs.FieldValues.{byte-is, standing-inside, standing-within}
 use Rattle.card.proofs.HeadStages.{map-limit}
-use Rattle.card.proofs.RestChecks.{tablesPart, restStreams, restChecks, restMasks, streams-turn, streams-fault, streams-end, checks-turn, checks-fault, checks-end}
+use Rattle.card.proofs.RestChecks.{restStreams, restChecks, restMasks, streams-start, streams-turn, streams-fault, streams-end, checks-turn, checks-fault, checks-end}
 use Rattle.card.proofs.RestChecks.{check-turn, check-fault, check-stands, check-fails}
 
 -- what the reader of the head and the generators leaves
@@ -35,7 +32,7 @@ pub record Limits (c : Card) : Type 0 where
   pub m-most : c .m < 32
 
 -- before stream i
-pub record AtStreams (bs : List ℕ) (c : Card) (r : PartOutcome) (verdict : Verdict) (counts checks : List ℕ) (at i : ℕ) : Type 0 where
+pub record AtStreams (bs : List ℕ) (c : Card) (r : Read Tables) (verdict : Verdict) (counts checks : List ℕ) (at i : ℕ) : Type 0 where
   pub limits : Limits c
   pub stream-most : i ≤ c .k
   pub inside : at ≤ length bs
@@ -45,7 +42,7 @@ pub record AtStreams (bs : List ℕ) (c : Card) (r : PartOutcome) (verdict : Ver
   pub same : restStreams bs c i counts checks at ≡ r
 
 -- before check q of stream i, whose earlier checks touch the errors `touched`
-pub record AtChecks (bs : List ℕ) (c : Card) (r : PartOutcome) (i count : ℕ) (counts : List ℕ)
+pub record AtChecks (bs : List ℕ) (c : Card) (r : Read Tables) (i count : ℕ) (counts : List ℕ)
     (verdict : Verdict) (checks touched : List ℕ) (at q : ℕ) : Type 0 where
   pub limits : Limits c
   pub stream-lt : i < c .k
@@ -56,7 +53,7 @@ pub record AtChecks (bs : List ℕ) (c : Card) (r : PartOutcome) (i count : ℕ)
   pub long-checks : length checks ≡ 512
   pub unbroken : verdict ≡ Accepted
   pub earlier : List (List ℕ)
-  pub union : Union c i earlier touched
+  pub union : Union c earlier touched
   pub same : restChecks bs c i count q earlier counts checks at ≡ r
 
 -- the masks of a check that were read, in an array
@@ -66,7 +63,7 @@ pub record Seen (m : ℕ) (masks : List ℕ) (j : ℕ) (seen : List ℕ) : Type 
   pub same : (n : ℕ) → getD masks n 0 ≡ getD seen n 0
 
 -- before mask j of check q, whose map stands at place
-pub record AtMasks (bs : List ℕ) (c : Card) (r : PartOutcome) (i count : ℕ) (counts : List ℕ) (q place : ℕ) (touched : List ℕ)
+pub record AtMasks (bs : List ℕ) (c : Card) (r : Read Tables) (i count : ℕ) (counts : List ℕ) (q place : ℕ) (touched : List ℕ)
     (verdict : Verdict) (checks masks : List ℕ) (rest at j : ℕ) : Type 0 where
   pub limits : Limits c
   pub stream-lt : i < c .k
@@ -79,7 +76,7 @@ pub record AtMasks (bs : List ℕ) (c : Card) (r : PartOutcome) (i count : ℕ) 
   pub long-masks : length masks ≡ 8
   pub unbroken : verdict ≡ Accepted
   pub earlier : List (List ℕ)
-  pub union : Union c i earlier touched
+  pub union : Union c earlier touched
   pub seen : List ℕ
   pub seen-are : Seen (c .m) masks j seen
   pub same : restMasks bs c i count q place earlier counts seen j checks rest at ≡ r
@@ -113,28 +110,28 @@ place hi hk hq hn hj hp =
       bytes-fit = omega arith;
     }
 
-pub place-of : {bs : List ℕ} {c : Card} {r : PartOutcome} {i count : ℕ} {counts : List ℕ} {q at₀ : ℕ} {touched : List ℕ} {verdict : Verdict} {checks masks : List ℕ} {rest at j : ℕ}
+pub place-of : {bs : List ℕ} {c : Card} {r : Read Tables} {i count : ℕ} {counts : List ℕ} {q at₀ : ℕ} {touched : List ℕ} {verdict : Verdict} {checks masks : List ℕ} {rest at j : ℕ}
     → AtMasks bs c r i count counts q at₀ touched verdict checks masks rest at j → j < c .p → Place i q j
 place-of v l = place (v .stream-lt) (v .limits .k-most) (v .check-lt) (v .count-most) l (v .limits .p-most)
 
 -- a check whose masks are all read is judged as the definition has it
-module _ {bs : List ℕ} {c : Card} {r : PartOutcome} {i count : ℕ} {counts : List ℕ} {q at₀ : ℕ} {touched : List ℕ} {verdict : Verdict} {checks masks : List ℕ} {rest at j : ℕ}
-    (v : AtMasks bs c r i count counts q at₀ touched verdict checks masks rest at j) (whole : c .p ≤ j)
-    {errors : List ℕ} {judged : CheckJudged} (es : errors ≡ errorsBy (c .generators) masks (c .k) (c .p) (c .m)) (ej : judged ≡ judgeBy errors touched i) where
+module _ {bs : List ℕ} {c : Card} {r : Read Tables} {i count : ℕ} {counts : List ℕ} {q at₀ : ℕ} {touched : List ℕ} {verdict : Verdict} {checks masks : List ℕ} {rest at j : ℕ}
+    (v : AtMasks bs c r i count counts q at₀ touched verdict checks masks rest at j) (whole : c .p ≤ j) {number : ℕ} {after : List ℕ}
+    (P : Passed (wordCode (c .generators) (streamsOf (c .k)) (paritiesOf (c .k) (c .p))) i (firstMasks (paritiesOf (c .k) (c .p)) masks) touched number after) where
   all-seen : length (v .seen) ≡ c .p
   all-seen = v .seen-are .many ∙ le-antisymm (v .mask-most) whole
 
-  judged-number : judge c i (v .earlier) (v .seen) ≡ checkNumber (judged .outcome)
+  judged-number : judgeAfter c i (v .earlier) (v .seen) ≡ number
   judged-number =
       let l = v .limits in
       let s = v .seen-are in
-      judged-same c (l .n-most) (l .k-most) (l .m-most) (v .seen) masks all-seen (s .within) (s .same) i (v .stream-lt) (v .earlier) touched (v .union) es ej
+      judged-same c (l .n-most) (l .m-most) (v .seen) masks all-seen (s .within) (s .same) P (v .union)
 
-  judged-errors : checkNumber (judged .outcome) ≡ 0 → Union c i (v .seen ∷ v .earlier) (judged .touched)
+  judged-errors : number ≡ 0 → Union c (v .seen ∷ v .earlier) after
   judged-errors =
       let l = v .limits in
       let s = v .seen-are in
-      judged-union c (l .n-most) (l .k-most) (l .m-most) (v .seen) masks all-seen (s .within) (s .same) i (v .stream-lt) (v .earlier) touched (v .union) es ej
+      judged-union c (l .n-most) (l .m-most) (v .seen) masks all-seen (s .within) (s .same) P (v .union)
 
 -- one mask more
 pub seen-more : {m : ℕ} {masks : List ℕ} {j : ℕ} {seen : List ℕ} {v : ℕ} → j < length masks → v < 2 ^ (m + 1) → Seen m masks j seen
@@ -149,7 +146,20 @@ seen-more {m} {masks} {j} {seen} {v} l h s =
     }
 
 -- ---- the turns, faults and ends
-module _ {bs : List ℕ} {c : Card} {r : PartOutcome} {verdict : Verdict} {counts checks : List ℕ} {at i : ℕ} where
+pub streams-begin : (bs : List ℕ) (c : Card) (start : ℕ) {counts checks : List ℕ} → Limits c → start ≤ length bs → counts ≡ replicate 4 0 → checks ≡ replicate 512 0
+    → AtStreams bs c (mapRead (tablesWith 0 (replicate 4 0) (replicate 512 0)) (readStreams bs c (c .k) 0 start)) Accepted counts checks start 0
+streams-begin bs c start l h e q =
+    record {
+      limits = l;
+      stream-most = zero-le;
+      inside = h;
+      long-counts = ap length e;
+      long-checks = ap length q;
+      unbroken = refl;
+      same = ap₂ (λ x y. restStreams bs c 0 x y start) e q ∙ streams-start bs c (replicate 4 0) (replicate 512 0) start;
+    }
+
+module _ {bs : List ℕ} {c : Card} {r : Read Tables} {verdict : Verdict} {counts checks : List ℕ} {at i : ℕ} where
   pub checks-begin : {count : ℕ} → AtStreams bs c r verdict counts checks at i → i < c .k → byteField bs at 1 16 7 ≡ value count
       → AtChecks bs c r i count (set counts i count) verdict checks (replicate 8 0) (at + 1) 0
   checks-begin v l e =
@@ -164,14 +174,14 @@ module _ {bs : List ℕ} {c : Card} {r : PartOutcome} {verdict : Verdict} {count
         long-checks = v .long-checks;
         unbroken = v .unbroken;
         earlier = [];
-        union = union-none c i;
+        union = union-none c;
         same = sym (streams-turn bs c i counts checks at l e) ∙ v .same;
       }
 
-  pub streams-stop : {n o : ℕ} → AtStreams bs c r verdict counts checks at i → i < c .k → byteField bs at 1 16 7 ≡ bad n o → refusedPart n o ≡ r
+  pub streams-stop : {n o : ℕ} → AtStreams bs c r verdict counts checks at i → i < c .k → byteField bs at 1 16 7 ≡ bad n o → fault n o ≡ r
   streams-stop v l e = sym (streams-fault bs c i counts checks at l e) ∙ v .same
 
-  pub streams-whole : AtStreams bs c r verdict counts checks at i → c .k ≤ i → tablesPart c counts checks at ≡ r
+  pub streams-whole : AtStreams bs c r verdict counts checks at i → c .k ≤ i → got (record { counts = counts; checks = checks }) at ≡ r
   streams-whole v l = sym (streams-end bs c i counts checks at l) ∙ v .same
 
   module _ {count q : ℕ} {touched : List ℕ} (v : AtChecks bs c r i count counts verdict checks touched at q) where
@@ -196,7 +206,7 @@ module _ {bs : List ℕ} {c : Card} {r : PartOutcome} {verdict : Verdict} {count
           same = sym (checks-turn bs c i count q (v .earlier) counts checks at l (map-limit bs at (c .p) (v .limits .p-most) e)) ∙ v .same;
         }
 
-    pub checks-stop : {n o : ℕ} → q < count → byteField bs at 0 (1 * 2 ^ c .p % 4294967296 - 1) 5 ≡ bad n o → refusedPart n o ≡ r
+    pub checks-stop : {n o : ℕ} → q < count → byteField bs at 0 (1 * 2 ^ c .p % 4294967296 - 1) 5 ≡ bad n o → fault n o ≡ r
     checks-stop l e = sym (checks-fault bs c i count q (v .earlier) counts checks at l (map-limit bs at (c .p) (v .limits .p-most) e)) ∙ v .same
 
     pub streams-next : count ≤ q → AtStreams bs c r verdict counts checks at (i + 1)
@@ -233,12 +243,13 @@ module _ {bs : List ℕ} {c : Card} {r : PartOutcome} {verdict : Verdict} {count
           same = sym (check-turn bs c i count q (v .earlier) counts place (v .seen) j checks rest at l e) ∙ v .same;
         }
 
-    pub masks-stop : {n o : ℕ} → j < c .p → standingMask bs at (c .m) (rest % 2) ≡ bad n o → refusedPart n o ≡ r
+    pub masks-stop : {n o : ℕ} → j < c .p → standingMask bs at (c .m) (rest % 2) ≡ bad n o → fault n o ≡ r
     masks-stop l e = sym (check-fault bs c i count q (v .earlier) counts place (v .seen) j checks rest at l e) ∙ v .same
 
     -- the check is whole, and is judged
-    module _ (whole : c .p ≤ j) {errors : List ℕ} {judged : CheckJudged} (es : errors ≡ errorsBy (c .generators) masks (c .k) (c .p) (c .m)) (ej : judged ≡ judgeBy errors touched i) where
-      pub checks-next : judged .outcome ≡ stands → AtChecks bs c r i count counts verdict checks (judged .touched) at (q + 1)
+    module _ (whole : c .p ≤ j) {number : ℕ} {after : List ℕ}
+        (P : Passed (wordCode (c .generators) (streamsOf (c .k)) (paritiesOf (c .k) (c .p))) i (firstMasks (paritiesOf (c .k) (c .p)) masks) touched number after) where
+      pub checks-next : number ≡ 0 → AtChecks bs c r i count counts verdict checks after at (q + 1)
       checks-next e =
           record {
             limits = v .limits;
@@ -250,28 +261,10 @@ module _ {bs : List ℕ} {c : Card} {r : PartOutcome} {verdict : Verdict} {count
             long-checks = v .long-checks;
             unbroken = v .unbroken;
             earlier = v .seen ∷ v .earlier;
-            union = judged-errors v whole es ej (ap checkNumber e);
-            same = sym (check-stands bs c i count q (v .earlier) counts place (v .seen) j checks rest at whole (judged-number v whole es ej ∙ ap checkNumber e)) ∙ v .same;
+            union = judged-errors v whole P e;
+            same = sym (check-stands bs c i count q (v .earlier) counts place (v .seen) j checks rest at whole (judged-number v whole P ∙ e)) ∙ v .same;
           }
 
-      pub check-stop : {n : ℕ} → judged .outcome ≡ fails n → 1 ≤ n → refusedPart n place ≡ r
+      pub check-stop : {n : ℕ} → number ≡ n → 1 ≤ n → fault n place ≡ r
       check-stop e l =
-          sym (check-fails bs c i count q (v .earlier) counts place (v .seen) j checks rest at whole (judged-number v whole es ej ∙ ap checkNumber e) (λ z. omega arith)) ∙ v .same
-
--- ---- what the loops leave
-abbrev pub leftTables : Card → Verdict → List ℕ → List ℕ → ℕ → PartOutcome
-leftTables c Accepted counts checks at = tablesPart c counts checks at
-leftTables c (Refused x o) counts checks at = refusedPart (numberOf x) o
-
-pub tables-ended : (c : Card) {v v₁ : Verdict} {l l₁ x x₁ : List ℕ} {at at₁ : ℕ} {r : PartOutcome} → v ≡ v₁ → l ≡ l₁ → x ≡ x₁ → at ≡ at₁ → v₁ ≡ Accepted
-    → tablesPart c l₁ x₁ at₁ ≡ r → leftTables c v l x at ≡ r
-tables-ended c e q y z o g = rw (e, q, y, z, o) g
-
-pub tables-broken : (c : Card) {v : Verdict} (l x : List ℕ) (at : ℕ) {f : Refusal} {o : ℕ} {r : PartOutcome} → v ≡ Refused f o → refusedPart (numberOf f) o ≡ r
-    → leftTables c v l x at ≡ r
-tables-broken c l x at e g = rw e g
-
--- .. at a check that fails: f is the refusal of its number
-pub tables-failed : (c : Card) {v : Verdict} (l x : List ℕ) (at : ℕ) {f : Refusal} {n o : ℕ} {r : PartOutcome} → v ≡ Refused f o → numberOf f ≡ n → refusedPart n o ≡ r
-    → leftTables c v l x at ≡ r
-tables-failed c l x at e q h = rw (e, q) h
+          sym (check-fails bs c i count q (v .earlier) counts place (v .seen) j checks rest at whole (judged-number v whole P ∙ e) (λ z. omega arith)) ∙ v .same

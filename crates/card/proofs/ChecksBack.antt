@@ -8,7 +8,7 @@ use lib.ListN.{length, drop, length-drop}
 use lib.Pow.{le-ones}
 use borrow.Author.Tests.{eq-eqb, le-ltb}
 use Rattle.card.specs.Fields.{Stream, Fields, codeOf}
-use Rattle.card.specs.Reading.{byteField, readHead, readMasks, readGenerators, judge, readCheck, readChecks, readStreams, readFields}
+use Rattle.card.specs.Reading.{byteField, readHead, readMasks, readGenerators, judgeAfter, readCheck, readChecks, readStreams, readFields}
 use Rattle.card.specs.Reading.Field.{value}
 use Rattle.card.specs.Reading.Read.{got}
 use Rattle.card.specs.Layout.{mapOf, layoutMasks, layoutRows, layoutChecks, layoutStreams, layout, AllMasksIn, AllStreamsIn, Acceptable}
@@ -21,9 +21,9 @@ use Rattle.card.proofs.LaidBack.{byte-back, masks-back, generators-back
 module _ (bs : List ℕ) (c : Card) (m-most : c .m ≤ 31) where
   -- ---- the checks of a stream
   check-step : (i : ℕ) (earlier : List (List ℕ)) (at map : ℕ) (vs : List ℕ) (at₁ : ℕ) → byteField bs at 0 (2 ^ c .p - 1) 5 ≡ value map
-      → readMasks bs (c .m) (c .p) map (at + 1) ≡ got vs at₁ → judge c i earlier vs ≡ 0 → readCheck bs c i earlier at ≡ got vs at₁
+      → readMasks bs (c .m) (c .p) map (at + 1) ≡ got vs at₁ → judgeAfter c i earlier vs ≡ 0 → readCheck bs c i earlier at ≡ got vs at₁
   unfolding readCheck
-  check-step i earlier at map vs at₁ e r j = rw (e, r, eq-eqb (judge c i earlier vs) 0 j)
+  check-step i earlier at map vs at₁ e r j = rw (e, r, eq-eqb (judgeAfter c i earlier vs) 0 j)
 
   checks-step : (i : ℕ) (earlier : List (List ℕ)) (at : ℕ) (vs : List ℕ) (at₁ : ℕ) (checks : List (List ℕ)) (at₂ : ℕ)
       → readCheck bs c i earlier at ≡ got vs at₁ → readChecks bs c i (length checks) (vs ∷ earlier) at₁ ≡ got checks at₂

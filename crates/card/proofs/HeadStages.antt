@@ -4,64 +4,54 @@ use mathlib.Core.Path.{_≡_, sym, ap, _∙_}
 use mathlib.Core.List.{List}
 use native.Mathlib.Nat.{mul-le-mul, one-mul}
 use native.Mathlib.Omega.{arith}
-use lib.ListN.{replicate}
 use lib.Pow.{shl-exact}
 use Rattle.card.specs.Refusals.{numberOf}
-use Rattle.card.specs.Outcome.{outcomeOf}
-use Rattle.card.specs.Outcome.Outcome.{accepted}
-use Rattle.card.specs.Fields.{emptyCard, storeRows}
-use Rattle.card.specs.Reading.{Field, byteField, kField, nField, readHead}
+use Rattle.card.specs.Reading.{Field, mapRead, byteField, kField, nField, readHead}
 use Rattle.card.specs.Reading.Field.{value, bad}
-use Rattle.card.specs.Parts.{verdictOf, partOf, refusedPart, Opened, Sized, headPart}
+use Rattle.card.specs.Reading.Read.{got, fault}
+use Rattle.card.specs.Parts.{verdictOf, readBy, Opened, Sized, sizesOf}
 use Rattle.card.specs.declared.Refusal.{Refusal}
+use Rattle.card.specs.declared.Verdict.{Verdict}
+use Rattle.card.specs.declared.Verdict.the-variants.{Accepted}
 use Rattle.card.specs.declared.fields.FieldRead.{FieldRead}
 use Rattle.card.specs.declared.fields.FieldRead.the-variants.{Fault}
-use Rattle.card.specs.declared.parts.Part.{Part}
 
--- a fault handed on
-pub refused-by : {r : Part} {f : FieldRead} {x : Refusal} {o : ℕ} → r ≡ record { verdict = verdictOf f; at = 0; card = emptyCard } → f ≡ Fault x o
-    → partOf r ≡ refusedPart (numberOf x) o
-refused-by e w = ap partOf e ∙ ap (λ (f : FieldRead). record { outcome = outcomeOf (verdictOf f); at = 0; card = emptyCard }) w
+-- a fault handed on, whatever was read so far
+pub refused-by : {A : Type 0} (x : A) (at : ℕ) {v : Verdict} {f : FieldRead} {refusal : Refusal} {o : ℕ} → v ≡ verdictOf f → f ≡ Fault refusal o
+    → readBy v x at ≡ fault (numberOf refusal) o
+refused-by x at e w = ap (λ v. readBy v x at) (e ∙ ap verdictOf w)
+
+-- a part read whole
+pub read-whole : {A : Type 0} (x : A) (at : ℕ) {v : Verdict} → v ≡ Accepted → readBy v x at ≡ got x at
+read-whole x at e = ap (λ v. readBy v x at) e
 
 -- ---- the head, field by field
 module _ (bs : List ℕ) {n o : ℕ} where
-  pub map-faulty : byteField bs 0 0 3 5 ≡ bad n o → refusedPart n o ≡ headPart (readHead bs)
+  pub map-faulty : byteField bs 0 0 3 5 ≡ bad n o → fault n o ≡ mapRead sizesOf (readHead bs)
   unfolding readHead
   map-faulty e = rw e
 
-  pub number-faulty : {map : ℕ} → byteField bs 0 0 3 5 ≡ value map → byteField bs 1 0 255 1 ≡ bad n o → refusedPart n o ≡ headPart (readHead bs)
+  pub number-faulty : {map : ℕ} → byteField bs 0 0 3 5 ≡ value map → byteField bs 1 0 255 1 ≡ bad n o → fault n o ≡ mapRead sizesOf (readHead bs)
   unfolding readHead
   number-faulty e₁ e = rw (e₁, e)
 
 module _ {bs : List ℕ} {map number : ℕ} (h : Opened bs map number) {n o : ℕ} where
-  pub k-faulty : kField bs (map % 2) ≡ bad n o → refusedPart n o ≡ headPart (readHead bs)
+  pub k-faulty : kField bs (map % 2) ≡ bad n o → fault n o ≡ mapRead sizesOf (readHead bs)
   unfolding readHead
   k-faulty e = rw (h .map-read, h .number-read, e)
 
-  pub n-faulty : {k : ℕ} → kField bs (map % 2) ≡ value k → nField bs (2 + map % 2) (map / 2) k ≡ bad n o → refusedPart n o ≡ headPart (readHead bs)
+  pub n-faulty : {k : ℕ} → kField bs (map % 2) ≡ value k → nField bs (2 + map % 2) (map / 2) k ≡ bad n o → fault n o ≡ mapRead sizesOf (readHead bs)
   unfolding readHead
   n-faulty e₁ e = rw (h .map-read, h .number-read, e₁, e)
 
 module _ {bs : List ℕ} {map number k n : ℕ} (h : Sized bs map number k n) where
-  pub m-faulty : {x o : ℕ} → byteField bs (2 + map % 2 + map / 2) 0 31 4 ≡ bad x o → refusedPart x o ≡ headPart (readHead bs)
+  pub m-faulty : {x o : ℕ} → byteField bs (2 + map % 2 + map / 2) 0 31 4 ≡ bad x o → fault x o ≡ mapRead sizesOf (readHead bs)
   unfolding readHead
   m-faulty e = rw (h .opened .map-read, h .opened .number-read, h .k-read, h .n-read, e)
 
-  pub head-whole : {m : ℕ} → byteField bs (2 + map % 2 + map / 2) 0 31 4 ≡ value m →
-      record {
-        outcome = accepted;
-        at = 2 + map % 2 + map / 2 + 1;
-        card = record {
-          number = number;
-          k = k;
-          p = n - k;
-          m = m;
-          generators = replicate 32 0;
-          counts = replicate 4 0;
-          checks = replicate 512 0;
-        };
-      } ≡ headPart (readHead bs)
-  unfolding readHead storeRows
+  pub head-whole : {m : ℕ} → byteField bs (2 + map % 2 + map / 2) 0 31 4 ≡ value m
+      → got (record { number = number; k = k; p = n - k; m = m }) (2 + map % 2 + map / 2 + 1) ≡ mapRead sizesOf (readHead bs)
+  unfolding readHead
   head-whole e = rw (h .opened .map-read, h .opened .number-read, h .k-read, h .n-read, e)
 
 -- ---- ranges

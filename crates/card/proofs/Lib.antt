@@ -12,7 +12,6 @@ pub mod RefusedCard
 -- accepted exactly when
 pub mod Stores
 pub mod CardTables
-pub mod Clashes
 pub mod Standing
 pub mod Orthogonality
 pub mod WholeReading

@@ -32,6 +32,10 @@ pub map-got : {X B : Type 0} (g : X → B) (r : Read X) {b : B} {at : ℕ} → m
 map-got g (got x at₁) e = (x, ap (λ a. got x a) (got-where e), got-what e)
 map-got g (fault n o) e = not-got e
 
+pub map-faulted : {X B : Type 0} (g : X → B) (r : Read X) {n o : ℕ} → mapRead g r ≡ fault n o → r ≡ fault n o
+map-faulted g (got x at) e = not-got (sym e)
+map-faulted g (fault n o) e = cc
+
 -- ---- the head
 pub record HeadIs (bs : List ℕ) (h : Head) (at : ℕ) : Type 0 where
   pub map : ℕ

@@ -6,21 +6,23 @@ use native.Mathlib.Omega.{arith}
 use Rattle.card.specs.Reading.{Read, next, mapRead, standingMask, readMasks}
 use Rattle.card.specs.Reading.Field.{value, bad}
 use Rattle.card.specs.Reading.Read.{got, fault}
-use Rattle.card.specs.Parts.{after}
 
 -- ---- what follows a reading
-pub after-map : {X Y A : Type 0} (g : X → Y) (go : Y → ℕ → A) (stop : ℕ → ℕ → A) (r : Read X) → after go stop (mapRead g r) ≡ after (λ x at. go (g x) at) stop r
-after-map g go stop (got x at) = refl
-after-map g go stop (fault n o) = refl
+pub next-is-map : {X B : Type 0} (g : X → B) (r : Read X) → next r (λ x at. got (g x) at) ≡ mapRead g r
+next-is-map g (got x at) = refl
+next-is-map g (fault n o) = refl
 
-pub after-next : {X Y A : Type 0} (f : X → ℕ → Read Y) (go : Y → ℕ → A) (stop : ℕ → ℕ → A) (r : Read X)
-    → after go stop (next r f) ≡ after (λ x at. after go stop (f x at)) stop r
-after-next f go stop (got x at) = refl
-after-next f go stop (fault n o) = refl
+pub next-map : {X Y B : Type 0} (g : X → Y) (go : Y → ℕ → Read B) (r : Read X) → next (mapRead g r) go ≡ next r (λ x at. go (g x) at)
+next-map g go (got x at) = refl
+next-map g go (fault n o) = refl
 
-pub after-same : {X A : Type 0} {go go₁ : X → ℕ → A} (stop : ℕ → ℕ → A) (r : Read X) → ((x : X) (at : ℕ) → go x at ≡ go₁ x at) → after go stop r ≡ after go₁ stop r
-after-same stop (got x at) h = h x at
-after-same stop (fault n o) h = refl
+pub next-next : {X Y B : Type 0} (f : X → ℕ → Read Y) (go : Y → ℕ → Read B) (r : Read X) → next (next r f) go ≡ next r (λ x at. next (f x at) go)
+next-next f go (got x at) = refl
+next-next f go (fault n o) = refl
+
+pub next-same : {X B : Type 0} {go go₁ : X → ℕ → Read B} (r : Read X) → ((x : X) (at : ℕ) → go x at ≡ go₁ x at) → next r go ≡ next r go₁
+next-same (got x at) h = h x at
+next-same (fault n o) h = refl
 
 -- ---- counting down
 pub one-less : (n i : ℕ) → i < n → n - i ≡ suc (n - (i + 1))
@@ -30,16 +32,16 @@ pub none-left : (n i : ℕ) → n ≤ i → n - i ≡ 0
 none-left n i h = omega arith
 
 -- ---- masks
-module _ {A : Type 0} (bs : List ℕ) (m p : ℕ) (go : List ℕ → ℕ → A) (stop : ℕ → ℕ → A) (s map at : ℕ) where
+module _ {B : Type 0} (bs : List ℕ) (m p : ℕ) (go : List ℕ → ℕ → Read B) (s map at : ℕ) where
   pub masks-turn : {v : ℕ} → s < p → standingMask bs at m (map % 2) ≡ value v
-      → after go stop (readMasks bs m (p - s) map at) ≡ after (λ vs at₁. go (v ∷ vs) at₁) stop (readMasks bs m (p - (s + 1)) (map / 2) (at + map % 2 * 4))
+      → next (readMasks bs m (p - s) map at) go ≡ next (readMasks bs m (p - (s + 1)) (map / 2) (at + map % 2 * 4)) (λ vs at₁. go (v ∷ vs) at₁)
   unfolding readMasks
-  masks-turn {v} h e = rw (one-less p s h, e) (after-map (λ vs. v ∷ vs) go stop (readMasks bs m (p - (s + 1)) (map / 2) (at + map % 2 * 4)))
+  masks-turn {v} h e = rw (one-less p s h, e) (next-map (λ vs. v ∷ vs) go (readMasks bs m (p - (s + 1)) (map / 2) (at + map % 2 * 4)))
 
-  pub masks-fault : {n o : ℕ} → s < p → standingMask bs at m (map % 2) ≡ bad n o → after go stop (readMasks bs m (p - s) map at) ≡ stop n o
+  pub masks-fault : {n o : ℕ} → s < p → standingMask bs at m (map % 2) ≡ bad n o → next (readMasks bs m (p - s) map at) go ≡ fault n o
   unfolding readMasks
   masks-fault h e = rw (one-less p s h, e)
 
-  pub masks-end : p ≤ s → after go stop (readMasks bs m (p - s) map at) ≡ go [] at
+  pub masks-end : p ≤ s → next (readMasks bs m (p - s) map at) go ≡ go [] at
   unfolding readMasks
   masks-end h = rw (none-left p s h)

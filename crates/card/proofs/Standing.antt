@@ -7,10 +7,10 @@ use native.Mathlib.Omega.{arith}
 use lib.ListN.{length, getD}
 use Rattle.bits.proofs.Cases.{le-or-lt}
 use Rattle.code.specs.Checks.{touchesBy}
-use Rattle.card.specs.Reading.{maskAt, touchedBy, judge}
+use Rattle.card.specs.Reading.{maskAt, touchedBy, judgeAfter}
 use Rattle.code.specs.declared.Card.{Card}
 use Rattle.code.proofs.Touches.{touches-by-le}
-use Rattle.card.proofs.Clashes.{no-clash, clash-none, judge-none, none-judge}
+use Rattle.code.proofs.Judging.{no-clash, clash-none, judge-none, none-judge}
 
 -- 1 if check q of a list touches the error (b, s)
 abbrev pub touchesAt : Card → List (List ℕ) → ℕ → ℕ → ℕ → ℕ
@@ -20,7 +20,7 @@ module _ (c : Card) (i : ℕ) where
   -- none of the checks is refused after the earlier ones
   abbrev pub ChecksStand : List (List ℕ) → List (List ℕ) → Type 0
   ChecksStand earlier [] = Unit {0}
-  ChecksStand earlier (vs ∷ checks) = (judge c i earlier vs ≡ 0) × ChecksStand (vs ∷ earlier) checks
+  ChecksStand earlier (vs ∷ checks) = (judgeAfter c i earlier vs ≡ 0) × ChecksStand (vs ∷ earlier) checks
 
   -- the checks of a list are orthogonal, in the words of `Orthogonal`
   pub record ListOrthogonal (checks : List (List ℕ)) : Type 0 where
@@ -31,7 +31,7 @@ module _ (c : Card) (i : ℕ) where
   -- ---- checks that stand are orthogonal
   own-at : (earlier checks : List (List ℕ)) → ChecksStand earlier checks → (q : ℕ) → q < length checks → touchesAt c checks q 0 i ≡ 1
   own-at earlier [] a q h = absurd (omega arith)
-  own-at earlier (vs ∷ checks) a zero h = judge-none c i earlier vs (a .0) .0
+  own-at earlier (vs ∷ checks) a zero h = judge-none c i (maskAt vs) (touchedBy c earlier) (a .0) .0
   own-at earlier (vs ∷ checks) a (suc q) h = own-at (vs ∷ earlier) checks (a .1) q (omega arith)
 
   module _ (b s : ℕ) (b-most : b ≤ c .m) (s-most : s < c .k + c .p) (other : b ≡ 0 → s ≡ i → ⊥) where
@@ -39,7 +39,8 @@ module _ (c : Card) (i : ℕ) where
         → touchesAt c checks q b s ≡ 1 → ⊥
     unfolding touchedBy
     apart-from earlier [] a q h n e = absurd (omega arith)
-    apart-from earlier (vs ∷ checks) a zero h n e = clash-none c i b s b-most s-most other earlier vs (judge-none c i earlier vs (a .0) .1) e n
+    apart-from earlier (vs ∷ checks) a zero h n e =
+        clash-none c i (maskAt vs) (touchedBy c earlier) b s b-most s-most other (judge-none c i (maskAt vs) (touchedBy c earlier) (a .0) .1) e n
     apart-from earlier (vs ∷ checks) a (suc q) h n e = apart-from (vs ∷ earlier) checks (a .1) q (omega arith) (omega arith) e
 
     apart-at : (earlier checks : List (List ℕ)) → ChecksStand earlier checks → (q r : ℕ) → q < r → r < length checks → touchesAt c checks q b s ≡ 1
@@ -67,7 +68,8 @@ module _ (c : Card) (i : ℕ) where
   stand-after : (earlier checks : List (List ℕ)) → ListOrthogonal checks → ApartFrom earlier checks → ChecksStand earlier checks
   stand-after earlier [] o a = tt
   stand-after earlier (vs ∷ checks) o a = (
-    none-judge c i earlier vs (o .own 0 (omega arith)) (no-clash c i earlier vs (λ b s l k other e n. a b s 0 l k other (omega arith) n e)),
+    none-judge c i (maskAt vs) (touchedBy c earlier) (o .own 0 (omega arith))
+        (no-clash c i (maskAt vs) (touchedBy c earlier) (λ b s l k other e n. a b s 0 l k other (omega arith) n e)),
     stand-after (vs ∷ earlier) checks
         (record {
           own = λ q h. o .own (suc q) (omega arith);

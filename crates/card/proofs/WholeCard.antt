@@ -1,62 +1,32 @@
 -- The parts of a card put together: what `read_card` gives is what the definition reads.
 use Prim.Native.Nat.{ℕ, _+_, _-_, _≤_, _<_}
-use mathlib.Core.Path.{_≡_, refl, sym, ap, ap₂, _∙_}
-use mathlib.Core.List.{List, []}
+use mathlib.Core.Path.{_≡_, sym, ap, _∙_}
+use mathlib.Core.List.{List}
 use native.Mathlib.Omega.{arith}
-use lib.ListN.{length}
+use lib.ListN.{length, replicate}
 use borrow.Author.Tests.{lt-ltb, le-ltb}
 use Rattle.card.specs.Refusals.{numberOf}
 use Rattle.card.specs.Outcome.{outcomeOf, published}
-use Rattle.card.specs.Outcome.Outcome.{accepted, refused}
-use Rattle.card.specs.Fields.{Head, Stream, emptyCard, codeOf, withChecks, cardOf}
-use Rattle.card.specs.Reading.{Read, readHead, readGenerators, readStreams, readFields, refusedCard, readCard}
+use Rattle.card.specs.Outcome.Outcome.{accepted}
+use Rattle.card.specs.Fields.{Head, Stream, emptyCard, storeRows, codeOf, withChecks, cardOf}
+use Rattle.card.specs.Reading.{Read, mapRead, readHead, readGenerators, readStreams, readFields, refusedCard, readCard}
 use Rattle.card.specs.Reading.Read.{got, fault}
-use Rattle.card.specs.Parts.{after, PartOutcome, partOf, refusedPart, headPart, generatorsPart, checksPart}
+use Rattle.card.specs.Parts.{readBy, sizesOf, codeBy, Tables, tablesWith}
 use Rattle.code.specs.declared.Card.{Card}
 use Rattle.card.specs.declared.CardRead.{CardRead}
 use Rattle.card.specs.declared.Refusal.{Refusal}
 use Rattle.card.specs.declared.Verdict.{Verdict}
 use Rattle.card.specs.declared.Verdict.the-variants.{Accepted, Refused}
-use Rattle.card.specs.declared.parts.Part.{Part}
-use Rattle.card.proofs.ReadParts.{head-in, generators-inside}
+use Rattle.card.specs.declared.parts.Sizes.{Sizes}
+use Rattle.card.proofs.ReadParts.{map-got, map-faulted, head-in, generators-inside}
 
 -- ---- one part: what it read, where it is accepted, and its fault, where not
-pub record PartGot (X : Type 0) (f : X → Card) (r : Part) (rd : Read X) : Type 0 where
-  pub what : X
-  pub where₁ : ℕ
-  pub read : rd ≡ got what where₁
-  pub at-is : r .at ≡ where₁
-  pub card-is : r .card ≡ f what
+module _ {A B : Type 0} (f : A → B) (rd : Read A) (v : Verdict) (x : B) (at : ℕ) (e : readBy v x at ≡ mapRead f rd) where
+  part-got : v ≡ Accepted → (a : A) × (rd ≡ got a at) × (f a ≡ x)
+  part-got q = map-got f rd (sym e ∙ ap (λ v. readBy v x at) q)
 
-module _ {X : Type 0} (f : X → Card) (r : Part) (rd : Read X) (e : partOf r ≡ after (λ x at. record { outcome = accepted; at = at; card = f x }) refusedPart rd) where
-  pub part-got : r .verdict ≡ Accepted → PartGot X f r rd
-  part-got v = go rd refl
-    where
-      go : (x : Read X) → rd ≡ x → PartGot X f r rd
-      go (got x at) q =
-          let w : partOf r ≡ record { outcome = accepted; at = at; card = f x } = e ∙ ap (after (λ x at. record { outcome = accepted; at = at; card = f x }) refusedPart) q in
-          record { what = x; where₁ = at; read = q; at-is = ap (λ (p : PartOutcome). p .at) w; card-is = ap (λ (p : PartOutcome). p .card) w }
-      go (fault n o) q =
-          let w : accepted ≡ refused n o =
-          sym (ap outcomeOf v) ∙ ap (λ (p : PartOutcome). p .outcome) (e ∙ ap (after (λ x at. record { outcome = accepted; at = at; card = f x }) refusedPart) q) in
-          let z : _≡_ {A = ℕ} 0 1 = cc in
-          absurd (omega arith)
-
-  pub part-fault : {x : Refusal} {o : ℕ} → r .verdict ≡ Refused x o → rd ≡ fault (numberOf x) o
-  part-fault {x} {o} v = go rd refl
-    where
-      go : (y : Read X) → rd ≡ y → rd ≡ fault (numberOf x) o
-      go (got y at) q =
-          let w : refused (numberOf x) o ≡ accepted =
-          sym (ap outcomeOf v) ∙ ap (λ (p : PartOutcome). p .outcome) (e ∙ ap (after (λ x at. record { outcome = accepted; at = at; card = f x }) refusedPart) q) in
-          let z : _≡_ {A = ℕ} 0 1 = cc in
-          absurd (omega arith)
-      go (fault n p) q =
-          let w : refused (numberOf x) o ≡ refused n p =
-          sym (ap outcomeOf v) ∙ ap (λ (p : PartOutcome). p .outcome) (e ∙ ap (after (λ x at. record { outcome = accepted; at = at; card = f x }) refusedPart) q) in
-          let a : numberOf x ≡ n = cc in
-          let b : o ≡ p = cc in
-          q ∙ ap (λ y. fault y p) (sym a) ∙ ap (λ y. fault (numberOf x) y) (sym b)
+  part-fault : {refusal : Refusal} {o : ℕ} → v ≡ Refused refusal o → rd ≡ fault (numberOf refusal) o
+  part-fault q = map-faulted f rd (sym e ∙ ap (λ v. readBy v x at) q)
 
 -- ---- the answer after each part
 pub refused-read : {r : CardRead} {v : Verdict} {x : Refusal} {o : ℕ} → r ≡ record { verdict = v; card = emptyCard } → v ≡ Refused x o
@@ -88,79 +58,85 @@ module _ (bs : List ℕ) where
         whole-card l = rw (e₁, e₂, e₃, le-ltb at₂ (length bs) l)
 
 -- ---- as `read_card` has them
-module _ (bs : List ℕ) (r₁ : Part) (e₁ : partOf r₁ ≡ headPart (readHead bs)) where
-  pub head-stop : {x : Refusal} {o : ℕ} → r₁ .verdict ≡ Refused x o → refusedCard (numberOf x) o ≡ readCard bs
-  head-stop v = head-refused bs (part-fault (λ h. codeOf h []) r₁ (readHead bs) e₁ v)
+module _ (bs : List ℕ) (v₁ : Verdict) (z : Sizes) (at₁ : ℕ) (e₁ : readBy v₁ z at₁ ≡ mapRead sizesOf (readHead bs)) where
+  pub head-stop : {x : Refusal} {o : ℕ} → v₁ ≡ Refused x o → refusedCard (numberOf x) o ≡ readCard bs
+  head-stop q = head-refused bs (part-fault sizesOf (readHead bs) v₁ z at₁ e₁ q)
 
-  module _ (v₁ : r₁ .verdict ≡ Accepted) where
-    head-got : PartGot Head (λ h. codeOf h []) r₁ (readHead bs)
-    head-got = part-got (λ h. codeOf h []) r₁ (readHead bs) e₁ v₁
+  module _ (a₁ : v₁ ≡ Accepted) where
+    head-got : (h : Head) × (readHead bs ≡ got h at₁) × (sizesOf h ≡ z)
+    head-got = part-got sizesOf (readHead bs) v₁ z at₁ e₁ a₁
 
-    pub head-ranges : (r₁ .at ≤ length bs) × ((r₁ .card .k ≤ 4) × ((r₁ .card .p ≤ 7) × (r₁ .card .m < 32)))
+    -- what the head states lies within the limits
+    pub record Ranges : Type 0 where
+      pub inside : at₁ ≤ length bs
+      pub k-most : z .k ≤ 4
+      pub n-most : z .k + z .p ≤ 8
+      pub p-most : z .p ≤ 7
+      pub m-most : z .m < 32
+
+    pub head-ranges : Ranges
     head-ranges =
-        let g = head-got in
-        let i = head-in bs (g .what) (g .where₁) (g .read) in
-        let a = g .at-is in
-        let k = ap (λ (x : Card). x .k) (g .card-is) in
-        let p = ap (λ (x : Card). x .p) (g .card-is) in
-        let m = ap (λ (x : Card). x .m) (g .card-is) in
-        omega arith
+        let h = head-got .0 in
+        let i = head-in bs h at₁ (head-got .1) in
+        let k = ap (λ (x : Sizes). x .k) (head-got .2) in
+        let p = ap (λ (x : Sizes). x .p) (head-got .2) in
+        let m = ap (λ (x : Sizes). x .m) (head-got .2) in
+        record { inside = i .inside; k-most = omega arith; n-most = omega arith; p-most = omega arith; m-most = omega arith }
 
-    module _ (r₂ : Part) (e₂ : partOf r₂ ≡ generatorsPart (r₁ .card) (readGenerators bs (r₁ .at) (r₁ .card .k) (r₁ .card .p) (r₁ .card .m))) where
-      abbrev rowsRead : Head → ℕ → Read (List (List ℕ))
-      rowsRead h at = readGenerators bs at (h .k) (h .n - h .k) (h .m)
+    module _ (v₂ : Verdict) (generators : List ℕ) (at₂ : ℕ)
+        (e₂ : readBy v₂ generators at₂ ≡ mapRead (λ rows. storeRows 0 rows (replicate 32 0)) (readGenerators bs at₁ (z .k) (z .p) (z .m))) where
+      abbrev rowsRead : Sizes → Read (List (List ℕ))
+      rowsRead z = readGenerators bs at₁ (z .k) (z .p) (z .m)
 
-      generators-is : partOf r₂ ≡ generatorsPart (codeOf (head-got .what) []) (rowsRead (head-got .what) (head-got .where₁))
-      generators-is =
-          let g = head-got in e₂ ∙ ap₂ (λ (c : Card) (a : ℕ). generatorsPart c (readGenerators bs a (c .k) (c .p) (c .m))) (g .card-is) (g .at-is)
+      pub generators-stop : {x : Refusal} {o : ℕ} → v₂ ≡ Refused x o → refusedCard (numberOf x) o ≡ readCard bs
+      generators-stop q =
+          generators-refused bs (head-got .1)
+          (ap rowsRead (head-got .2) ∙ part-fault (λ rows. storeRows 0 rows (replicate 32 0)) (rowsRead z) v₂ generators at₂ e₂ q)
 
-      pub generators-stop : {x : Refusal} {o : ℕ} → r₂ .verdict ≡ Refused x o → refusedCard (numberOf x) o ≡ readCard bs
-      generators-stop v =
-          let g = head-got in
-          generators-refused bs (g .read) (part-fault (λ rows. codeOf (g .what) rows) r₂ (rowsRead (g .what) (g .where₁)) generators-is v)
+      module _ (a₂ : v₂ ≡ Accepted) where
+        rows-got : (rows : List (List ℕ)) × (rowsRead z ≡ got rows at₂) × (storeRows 0 rows (replicate 32 0) ≡ generators)
+        rows-got = part-got (λ rows. storeRows 0 rows (replicate 32 0)) (rowsRead z) v₂ generators at₂ e₂ a₂
 
-      module _ (v₂ : r₂ .verdict ≡ Accepted) where
-        code-got : PartGot (List (List ℕ)) (λ rows. codeOf (head-got .what) rows) r₂ (rowsRead (head-got .what) (head-got .where₁))
-        code-got = part-got (λ rows. codeOf (head-got .what) rows) r₂ (rowsRead (head-got .what) (head-got .where₁)) generators-is v₂
+        rows-read : rowsRead (sizesOf (head-got .0)) ≡ got (rows-got .0) at₂
+        rows-read = ap rowsRead (head-got .2) ∙ rows-got .1
 
-        pub code-ranges : (r₂ .at ≤ length bs) × ((r₂ .card .k ≤ 4) × ((r₂ .card .k + r₂ .card .p ≤ 8) × ((r₂ .card .p ≤ 7) × (r₂ .card .m < 32))))
-        code-ranges =
-            let g = head-got in
-            let q = code-got in
-            let h = g .what in
-            let i = head-in bs (g .what) (g .where₁) (g .read) in
-            let j = generators-inside bs (g .where₁) (h .k) (h .n - h .k) (h .m) (q .read) in
-            let a = q .at-is in
-            let k = ap (λ (x : Card). x .k) (q .card-is) in
-            let p = ap (λ (x : Card). x .p) (q .card-is) in
-            let m = ap (λ (x : Card). x .m) (q .card-is) in
-            omega arith
+        pub generators-within : at₂ ≤ length bs
+        generators-within = generators-inside bs at₁ (z .k) (z .p) (z .m) (rows-got .1)
 
-        module _ (r₃ : Part) (e₃ : partOf r₃ ≡ checksPart (r₂ .card) (readStreams bs (r₂ .card) (r₂ .card .k) 0 (r₂ .at))) where
-          abbrev codeIs : Card
-          codeIs = codeOf (head-got .what) (code-got .what)
+        -- the card before its checks
+        code-is : codeBy z generators ≡ codeOf (head-got .0) (rows-got .0)
+        code-is = sym (ap (λ z. codeBy z (storeRows 0 (rows-got .0) (replicate 32 0))) (head-got .2) ∙ ap (codeBy z) (rows-got .2))
 
-          checks-is : partOf r₃ ≡ checksPart codeIs (readStreams bs codeIs (head-got .what .k) 0 (code-got .where₁))
-          checks-is =
-              let q = code-got in e₃ ∙ ap₂ (λ (c : Card) (a : ℕ). checksPart c (readStreams bs c (c .k) 0 a)) (q .card-is) (q .at-is)
+        module _ (v₃ : Verdict) (tables : Tables) (at₃ : ℕ)
+            (e₃ : readBy v₃ tables at₃ ≡ mapRead (tablesWith 0 (replicate 4 0) (replicate 512 0)) (readStreams bs (codeBy z generators) (z .k) 0 at₂)) where
+          abbrev streamsRead : Card → Read (List Stream)
+          streamsRead c = readStreams bs c (c .k) 0 at₂
 
-          pub checks-stop : {x : Refusal} {o : ℕ} → r₃ .verdict ≡ Refused x o → refusedCard (numberOf x) o ≡ readCard bs
-          checks-stop v =
-              checks-refused bs (head-got .read) (code-got .read)
-              (part-fault (λ streams. withChecks codeIs streams) r₃ (readStreams bs codeIs (head-got .what .k) 0 (code-got .where₁)) checks-is v)
+          pub checks-stop : {x : Refusal} {o : ℕ} → v₃ ≡ Refused x o → refusedCard (numberOf x) o ≡ readCard bs
+          checks-stop q =
+              checks-refused bs (head-got .1) rows-read
+              (ap streamsRead (sym code-is) ∙ part-fault (tablesWith 0 (replicate 4 0) (replicate 512 0)) (streamsRead (codeBy z generators)) v₃ tables at₃ e₃ q)
 
-          module _ (v₃ : r₃ .verdict ≡ Accepted) where
-            checks-got : PartGot (List Stream) (λ streams. withChecks codeIs streams) r₃ (readStreams bs codeIs (head-got .what .k) 0 (code-got .where₁))
-            checks-got = part-got (λ streams. withChecks codeIs streams) r₃ (readStreams bs codeIs (head-got .what .k) 0 (code-got .where₁)) checks-is v₃
+          module _ (a₃ : v₃ ≡ Accepted) where
+            streams-got : (streams : List Stream) × (streamsRead (codeBy z generators) ≡ got streams at₃) × (tablesWith 0 (replicate 4 0) (replicate 512 0) streams ≡ tables)
+            streams-got = part-got (tablesWith 0 (replicate 4 0) (replicate 512 0)) (streamsRead (codeBy z generators)) v₃ tables at₃ e₃ a₃
 
-            pub after-stop : r₃ .at < length bs → refusedCard 10 (r₃ .at) ≡ readCard bs
-            after-stop l =
-                let q = checks-got in
-                let a = q .at-is in
-                ap (λ n. refusedCard 10 n) a ∙ bytes-after bs (head-got .read) (code-got .read) (q .read) (omega arith)
+            streams-read : streamsRead (codeOf (head-got .0) (rows-got .0)) ≡ got (streams-got .0) at₃
+            streams-read = ap streamsRead (sym code-is) ∙ streams-got .1
 
-            pub accepted-card : length bs ≤ r₃ .at → record { outcome = accepted; card = r₃ .card } ≡ readCard bs
+            pub after-stop : at₃ < length bs → refusedCard 10 at₃ ≡ readCard bs
+            after-stop l = bytes-after bs (head-got .1) rows-read streams-read l
+
+            pub accepted-card : length bs ≤ at₃ →
+                record {
+                  outcome = accepted;
+                  card = record { number = z .number; k = z .k; p = z .p; m = z .m; generators = generators; counts = tables .counts; checks = tables .checks };
+                } ≡ readCard bs
             accepted-card l =
-                let q = checks-got in
-                let a = q .at-is in
-                ap (λ (c : Card). record { outcome = accepted; card = c }) (q .card-is) ∙ whole-card bs (head-got .read) (code-got .read) (q .read) (omega arith)
+                ap (λ (t : Tables).
+                record {
+                  outcome = accepted;
+                  card = record { number = z .number; k = z .k; p = z .p; m = z .m; generators = generators; counts = t .counts; checks = t .checks };
+                }) (sym (streams-got .2))
+                ∙ ap (λ (c : Card). record { outcome = accepted; card = withChecks c (streams-got .0) }) code-is
+                ∙ whole-card bs (head-got .1) rows-read streams-read l

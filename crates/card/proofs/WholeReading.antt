@@ -10,7 +10,7 @@ use borrow.Author.Tests.{eqb-true, ltb-false}
 use Rattle.bits.proofs.Cases.{picked}
 use Rattle.card.specs.Outcome.Outcome.{accepted, refused}
 use Rattle.card.specs.Fields.{Fields, codeOf, cardOf}
-use Rattle.card.specs.Reading.{Read, byteField, readHead, readMasks, readGenerators, judge, readCheck, readStreams, readFields, answer, readCard}
+use Rattle.card.specs.Reading.{Read, byteField, readHead, readMasks, readGenerators, judgeAfter, readCheck, readStreams, readFields, answer, readCard}
 use Rattle.card.specs.Reading.Field.{value}
 use Rattle.card.specs.Reading.Read.{got, fault}
 use Rattle.code.specs.declared.Card.{Card}
@@ -21,7 +21,7 @@ pub record CheckIs (bs : List ℕ) (c : Card) (i : ℕ) (earlier : List (List �
   pub map : ℕ
   pub map-read : byteField bs at 0 (2 ^ c .p - 1) 5 ≡ value map
   pub masks-read : readMasks bs (c .m) (c .p) map (at + 1) ≡ got vs at₁
-  pub stands : judge c i earlier vs ≡ 0
+  pub stands : judgeAfter c i earlier vs ≡ 0
 
 pub check-is : (bs : List ℕ) (c : Card) (i : ℕ) (earlier : List (List ℕ)) (at : ℕ) {vs : List ℕ} {at₁ : ℕ} → readCheck bs c i earlier at ≡ got vs at₁
     → CheckIs bs c i earlier at vs at₁
@@ -36,10 +36,10 @@ check-is bs c i earlier at {vs} {at₁} e =
       map = a .0;
       map-read = a .1;
       masks-read = b .2 ∙ w .1;
-      stands = subst (λ x. judge c i earlier x ≡ 0) m (eqb-true _ 0 (w .0));
+      stands = subst (λ x. judgeAfter c i earlier x ≡ 0) m (eqb-true _ 0 (w .0));
     })
     (λ w. not-got (w .1))
-    (picked (eqb (judge c i earlier (b .0)) 0) (b .3))
+    (picked (eqb (judgeAfter c i earlier (b .0)) 0) (b .3))
 
 -- ---- the whole card
 pub record FieldsAre (bs : List ℕ) (f : Fields) (at : ℕ) : Type 0 where

@@ -6,10 +6,10 @@ use mathlib.Core.Bool.{cond}
 use mathlib.Core.List.{List, [], _∷_}
 use lib.ListN.{length, getD}
 use lib.Dec.{leb, ltb, eqb}
-use Rattle.bits.specs.Sums.{sumBelow}
 use Rattle.card.specs.Outcome.{CardOutcome}
 use Rattle.card.specs.Outcome.Outcome.{accepted, refused}
-use Rattle.code.specs.Checks.{touchesBy, besides}
+use Rattle.code.specs.Checks.{touchesBy}
+use Rattle.code.specs.Judging.{judge}
 use Rattle.card.specs.Fields.{Head, Stream, Fields, emptyCard, codeOf, cardOf}
 use Rattle.code.specs.declared.Card.{Card}
 
@@ -115,14 +115,9 @@ unfoldable pub touchedBy : Card → List (List ℕ) → ℕ → ℕ → ℕ
 touchedBy c [] b s = 0
 touchedBy c (vs ∷ checks) b s = touchesBy c (maskAt vs) b s + touchedBy c checks b s
 
--- zero unless the check touches an error, other than that of its own digit, that an earlier one of its stream touches
-unfoldable pub clashes : Card → ℕ → List (List ℕ) → List ℕ → ℕ
-clashes c i earlier vs =
-    sumBelow (suc (c .m)) (λ b. sumBelow (c .k + c .p) (λ s. besides i b s * (touchesBy c (maskAt vs) b s * touchedBy c earlier b s)))
-
--- the refusal of a whole check, 0 for none; "8 is tested before 9"
-unfoldable pub judge : Card → ℕ → List (List ℕ) → List ℕ → ℕ
-judge c i earlier vs = cond (eqb (touchesBy c (maskAt vs) 0 i) 1) (cond (eqb (clashes c i earlier vs) 0) 0 9) 8
+-- the refusal of a whole check after the earlier ones of its stream, 0 for none
+abbrev pub judgeAfter : Card → ℕ → List (List ℕ) → List ℕ → ℕ
+judgeAfter c i earlier vs = judge c i (maskAt vs) (touchedBy c earlier)
 
 -- a judged check, with the offset of its map byte
 abbrev pub judged : List ℕ → ℕ → ℕ → ℕ → Read (List ℕ)
@@ -133,7 +128,7 @@ unfoldable pub readCheck : List ℕ → Card → ℕ → List (List ℕ) → ℕ
 readCheck bs c i earlier at =
     field (byteField bs at 0 (2 ^ c .p - 1) 5) λ map.
     next (readMasks bs (c .m) (c .p) map (at + 1)) λ vs after.
-    judged vs at after (judge c i earlier vs)
+    judged vs at after (judgeAfter c i earlier vs)
 
 unfoldable pub readChecks : List ℕ → Card → ℕ → ℕ → List (List ℕ) → ℕ → Read (List (List ℕ))
 readChecks bs c i zero earlier at = got [] at

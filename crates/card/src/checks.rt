@@ -1,18 +1,17 @@
 // The checks of a card, after its generators.
 ghost use mathlib.Core.Path.{_≡_};
 ghost use Prim.Native.Nat.{_+_, _<_, _≤_};
-ghost use lib.ListN.{length};
+ghost use lib.ListN.{length, replicate};
 ghost use Rattle.orthogonal.specs.Judgements.{failureNumber};
 ghost use Rattle.card.specs.Refusals.{numberOf};
-ghost use Rattle.card.specs.Reading.{readStreams};
-ghost use Rattle.card.specs.Parts.{partOf, checksPart};
+ghost use Rattle.card.specs.Reading.{mapRead, readStreams};
+ghost use Rattle.card.specs.Parts.{readBy, codeBy, tablesWith};
 use crate::Refusal;
 use crate::Verdict;
 use crate::fields;
 use crate::fields::FieldRead;
-use crate::parts;
-use crate::parts::Part;
-use code::Card;
+use crate::parts::PartRead;
+use crate::parts::Sizes;
 use orthogonal::Failure;
 use orthogonal::Judgement;
 
@@ -26,18 +25,24 @@ fn refusal_of(failure: Failure) -> Refusal
     }
 }
 
-// The checks of every information stream, left at the first refusal.
-pub(crate) fn read_checks(bytes: &[u8], start: usize, card: Card) -> Part
-    requires { ⌜ (start ≤ length (now bytes)) × ((card .k ≤ 4) × ((card .k + card .p ≤ 8) × ((card .p ≤ 7) × (card .m < 32)))) ⌝ }
-    ensures { λ r. ⌜ partOf r ≡ checksPart card (readStreams (now (bytes .entry)) card (card .k) 0 start) ⌝ }
+// The checks of every information stream, left at the first refusal, stored in the empty tables.
+pub(crate) fn read_checks(
+    bytes: &[u8],
+    start: usize,
+    sizes: Sizes,
+    generators: &[u32; 32],
+    counts: &mut [usize; 4],
+    checks: &mut [u32; 512],
+) -> PartRead
+    requires { ⌜ (start ≤ length (now bytes)) × ((sizes .k ≤ 4) × ((sizes .k + sizes .p ≤ 8) × ((sizes .p ≤ 7) × (sizes .m < 32)))) ⌝ }
+    requires { ⌜ (now counts ≡ replicate 4 0) × (now checks ≡ replicate 512 0) ⌝ }
+    ensures { λ r. ⌜ readBy (r .verdict) (record { counts = now (counts .exit); checks = now (checks .exit) }) (r .at)
+        ≡ mapRead (tablesWith 0 (replicate 4 0) (replicate 512 0))
+        (readStreams (now (bytes .entry)) (codeBy sizes (now (generators .entry))) (sizes .k) 0 start) ⌝ }
 {
-    let k = card.k;
-    let p = card.p;
-    let m = card.m;
-    let generators = card.generators;
+    let k = sizes.k;
+    let p = sizes.p;
     let mut verdict = Verdict::Accepted;
-    let mut counts = [0usize; 4];
-    let mut checks = [0u32; 512];
     let mut at = start;
     'card: for i in 0..k {
         let count_read = fields::byte_field(bytes, at, 1, 16, Refusal::CheckCountOutOfRange);
@@ -65,7 +70,7 @@ pub(crate) fn read_checks(bytes: &[u8], start: usize, card: Card) -> Part
             let mut rest = map;
             let mut masks = [0u32; 8];
             for j in 0..p {
-                let mask_read = fields::standing_mask(bytes, at, m, rest % 2);
+                let mask_read = fields::standing_mask(bytes, at, sizes.m, rest % 2);
                 let FieldRead::Value(mask) = mask_read else {
                     verdict = fields::verdict_of(mask_read);
                     break 'card;
@@ -75,9 +80,7 @@ pub(crate) fn read_checks(bytes: &[u8], start: usize, card: Card) -> Part
                 at += (rest % 2) as usize * 4;
                 rest = rest / 2;
             }
-            let errors = orthogonal::errors_by(&generators, &masks, k, p, m);
-            let judged = orthogonal::judge(errors, touched, i);
-            let judgement = judged.judgement;
+            let judgement = orthogonal::pass(generators, &masks, &mut touched, k, p, i);
             if let Judgement::Fails(failure) = judgement {
                 verdict = Verdict::Refused {
                     refusal: refusal_of(failure),
@@ -85,26 +88,7 @@ pub(crate) fn read_checks(bytes: &[u8], start: usize, card: Card) -> Part
                 };
                 break 'card;
             }
-            touched = judged.touched;
         }
     }
-    if let Verdict::Refused {
-        refusal: _,
-        offset: _,
-    } = verdict {
-        return parts::refused_part(verdict);
-    }
-    Part {
-        verdict: Verdict::Accepted,
-        at,
-        card: Card {
-            number: card.number,
-            k,
-            p,
-            m,
-            generators,
-            counts,
-            checks,
-        },
-    }
+    PartRead { verdict, at }
 }

@@ -89,8 +89,9 @@ pub fn read_card(bytes: &[u8]) -> CardRead
     } = head_verdict {
         return refused(head_verdict);
     }
-    let head_card = head.card;
-    let code = parts::read_generators(bytes, head.at, head_card);
+    let sizes = head.sizes;
+    let mut generators = [0u32; 32];
+    let code = parts::read_generators(bytes, head.at, sizes, &mut generators);
     let code_verdict = code.verdict;
     if let Verdict::Refused {
         refusal: _,
@@ -98,8 +99,9 @@ pub fn read_card(bytes: &[u8]) -> CardRead
     } = code_verdict {
         return refused(code_verdict);
     }
-    let code_card = code.card;
-    let whole = checks::read_checks(bytes, code.at, code_card);
+    let mut counts = [0usize; 4];
+    let mut checks = [0u32; 512];
+    let whole = checks::read_checks(bytes, code.at, sizes, &generators, &mut counts, &mut checks);
     let verdict = whole.verdict;
     if let Verdict::Refused {
         refusal: _,
@@ -113,9 +115,16 @@ pub fn read_card(bytes: &[u8]) -> CardRead
             offset: whole.at,
         });
     }
-    let card = whole.card;
     CardRead {
         verdict: Verdict::Accepted,
-        card,
+        card: Card {
+            number: sizes.number,
+            k: sizes.k,
+            p: sizes.p,
+            m: sizes.m,
+            generators,
+            counts,
+            checks,
+        },
     }
 }

@@ -1,4 +1,5 @@
 pub mod CardClauses
+pub mod CheckClauses
 pub mod ReceiverClauses
 pub mod SenderClauses
 pub mod BurstClauses

@@ -2,3 +2,4 @@ pub mod Cards
 pub mod Closed
 pub mod Forms
 pub mod Listed
+pub mod Touched

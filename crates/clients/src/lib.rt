@@ -2,6 +2,7 @@
 // They stand in the gate, so that a clause that is dropped or weakened, or whose condition nothing meets any more, breaks a proof.
 pub mod bursts;
 pub mod cards;
+pub mod checks;
 pub mod edges;
 pub mod listings;
 pub mod sessions;

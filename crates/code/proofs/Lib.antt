@@ -5,3 +5,4 @@ pub mod Registers
 pub mod Sending
 pub mod Touches
 pub mod Besides
+pub mod Judging

@@ -1,5 +1,6 @@
 pub mod Code
 pub mod Checks
+pub mod Judging
 pub mod Guarantees
 pub mod Registers
 pub mod Bench

@@ -1,1 +1,5 @@
-pub mod ErrorMasks
+pub mod Failures
+pub mod Meeting
+pub mod WordCode
+pub mod Passing
+pub mod Within

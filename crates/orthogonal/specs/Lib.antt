@@ -1,2 +1,2 @@
 pub mod Judgements
-pub mod ErrorMasks
+pub mod Pass

@@ -1,9 +1,15 @@
-// Whether the checks of a stream are orthogonal, check by check: the errors that a check touches, as a mask of offsets for each stream, and the
-// judgement by them.
+// Whether the checks of a stream are orthogonal, check by check: one pass over a check works out the errors that it touches, a word for each stream,
+// tests them against those of the earlier checks and adds them.
 ghost use mathlib.Core.Path.{_≡_};
-ghost use Prim.Native.Nat.{_<_, _≤_};
-ghost use Rattle.orthogonal.specs.Judgements.{published};
-ghost use Rattle.orthogonal.specs.ErrorMasks.{touchBy, errorMask, errorsBy, judgeBy};
+ghost use mathlib.Core.List.{_++_};
+ghost use Prim.Native.Nat.{ℕ, _+_, _*_, _%_, _<_, _≤_};
+ghost use lib.ListN.{length, getD, drop};
+ghost use lib.Bits.{bitOr};
+ghost use Rattle.bits.specs.Sums.{sumBelow, upTo, back};
+ghost use Rattle.bits.specs.Digits.{bit};
+ghost use Rattle.code.specs.Checks.{touchesBy, besides};
+ghost use Rattle.orthogonal.specs.Judgements.{judgementNumber};
+ghost use Rattle.orthogonal.specs.Pass.{Passed, wordCode, streamsOf, paritiesOf, firstMasks};
 
 // Why a check does not stand. Each case has its published number, by `failureNumber`.
 pub enum Failure {
@@ -17,90 +23,102 @@ pub enum Judgement {
     Fails(Failure),
 }
 
-// The judgement, and the errors that the checks of the stream touch so far, their own digit's left out.
-pub struct Judged {
-    pub judgement: Judgement,
-    pub touched: [u32; 8],
-}
-
-// 1 if the check touches the error of information stream s at offset b.
-fn touch_by(generators: &[u32; 32], masks: &[u32; 8], p: usize, s: usize, b: usize) -> u32
-    requires { ⌜ (p ≤ 8) × ((s < 8) × (b < 32)) ⌝ }
-    ensures { λ r. ⌜ r ≡ touchBy (now (generators .entry)) (now (masks .entry)) p s b ⌝ }
+// The errors of an information stream that a check touches by way of one parity stream, every offset at once: its mask there, moved down by each
+// term of the generator.
+fn through_terms(mask: u32, generator: u32) -> u32
+    ensures { λ r. ⌜ ((b : ℕ) → b < 32 → bit r b ≡ sumBelow 32 (λ a. bit mask a * back (bit generator) a b) % 2) ⌝ }
 {
     let mut sum: u32 = 0;
-    for j in 0..p {
-        let mask = bits::word(masks, j);
-        let generator = bits::word(generators, s * 8 + j);
-        sum = sum ^ (mask >> b & generator);
+    let mut rest = generator;
+    while 0 < rest {
+        sum = sum ^ mask >> u32::trailing_zeros(rest);
+        rest = rest & rest - 1;
     }
-    u32::count_ones(sum) % 2
+    sum
 }
 
-// The offsets at which the check touches errors of stream s.
-fn error_mask(
+// The errors of information stream s that a check touches.
+fn information_errors(generators: &[u32; 32], masks: &[u32; 8], p: usize, s: usize) -> u32
+    requires { ⌜ (p ≤ 8) × (s < 8) ⌝ }
+    ensures { λ r. ⌜ ((b : ℕ) → b < 32 → bit r b ≡ sumBelow p (λ j.
+        sumBelow 32 (λ a. bit (getD (now (masks .entry)) j 0) a * back (bit (getD (now (generators .entry)) (s * 8 + j) 0)) a b)) % 2) ⌝ }
+{
+    let mut sum: u32 = 0;
+    let mut j = 0;
+    while j < p {
+        let generator = bits::word(generators, s * 8 + j);
+        sum = sum ^ through_terms(bits::word(masks, j), generator);
+        j += 1;
+    }
+    sum
+}
+
+// The errors of stream s that a check touches, that at offset b as digit b.
+fn errors_of(generators: &[u32; 32], masks: &[u32; 8], k: usize, p: usize, s: usize) -> u32
+    requires { ⌜ (k + p ≤ 8) × (s < k + p) ⌝ }
+    ensures { λ r. ⌜ ((b : ℕ) → b < 32 → bit r b ≡ touchesBy (wordCode (now (generators .entry)) k p) (firstMasks p (now (masks .entry))) b s) ⌝ }
+{
+    if s < k {
+        information_errors(generators, masks, p, s)
+    } else {
+        bits::word(masks, s - k)
+    }
+}
+
+// Errors of stream s without that of the own digit of a check of stream i.
+fn without_own(errors: u32, i: usize, s: usize) -> u32
+    ensures { λ r. ⌜ ((b : ℕ) → bit r b ≡ besides i b s * bit errors b) ⌝ }
+{
+    if s == i { errors - errors % 2 } else { errors }
+}
+
+// The errors of the first streams added to those touched.
+fn add_errors(touched: &mut [u32], errors: &[u32; 8], streams: usize)
+    requires { ⌜ (streams ≤ 8) × (length (now touched) ≡ 8) ⌝ }
+    ensures { λ r. ⌜ now (touched .exit) ≡ upTo streams (λ s. bitOr (getD (now (touched .entry)) s 0) (getD (now (errors .entry)) s 0)) ++ drop streams (now (touched .entry)) ⌝ }
+{
+    let mut s = 0;
+    while s < streams {
+        let before = touched[s];
+        let own = errors[s];
+        touched[s] = before | own;
+        s += 1;
+    }
+}
+
+// A whole check of stream i, given by its masks, and the errors that the earlier checks of its stream touch: each error of the check is worked out
+// once. Its own digit is tested first, then whether it touches another error that was touched before; if neither fails its errors are added. More
+// streams than the tables have are not looked at.
+pub fn pass(
     generators: &[u32; 32],
     masks: &[u32; 8],
+    touched: &mut [u32; 8],
     k: usize,
     p: usize,
-    m: usize,
-    s: usize,
-) -> u32
-    requires { ⌜ (p ≤ 8) × ((m < 32) × (s < 8)) ⌝ }
-    ensures { λ r. ⌜ r ≡ errorMask (now (generators .entry)) (now (masks .entry)) k p m s ⌝ }
+    i: usize,
+) -> Judgement
+    ensures { λ r. ⌜ Passed (wordCode (now (generators .entry)) (streamsOf k) (paritiesOf k p)) i (firstMasks (paritiesOf k p) (now (masks .entry)))
+        (now (touched .entry)) (judgementNumber r) (now (touched .exit)) ⌝ }
 {
-    if k <= s {
-        return bits::word(masks, s - k);
-    }
-    let mut mask: u32 = 0;
-    for b in 0..m + 1 {
-        mask += bits::shift_up(touch_by(generators, masks, p, s, b), b);
-    }
-    mask
-}
-
-// The errors that the check touches, by stream. More parity streams or memory than the tables and words have are not looked at.
-pub fn errors_by(generators: &[u32; 32], masks: &[u32; 8], k: usize, p: usize, m: usize) -> [u32; 8]
-    ensures { λ r. ⌜ r ≡ errorsBy (now (generators .entry)) (now (masks .entry)) k p m ⌝ }
-{
-    let streams = bits::at_most(p, 8);
-    let memory = bits::at_most(m, 31);
+    let streams = bits::at_most(k, 8);
+    let parities = bits::at_most(p, 8 - streams);
+    let n = streams + parities;
     let mut errors = [0u32; 8];
-    for s in 0..8 {
-        errors[s] = error_mask(generators, masks, k, streams, memory, s);
+    let mut again: u32 = 0;
+    let mut s = 0;
+    while s < n {
+        let touches = errors_of(generators, masks, streams, parities, s);
+        again = again | without_own(touches & touched[s], i, s);
+        errors[s] = touches;
+        s += 1;
     }
-    errors
-}
-
-// A whole check of stream i, the last one where there is none, by the errors that it touches and those that the earlier checks of its stream
-// touch: its own digit is tested first.
-pub fn judge(errors: [u32; 8], touched: [u32; 8], i: usize) -> Judged
-    ensures { λ r. ⌜ published r ≡ judgeBy errors touched i ⌝ }
-{
-    let stream = bits::at_most(i, 7);
-    let own = errors[stream];
-    if own % 2 != 1 {
-        return Judged {
-            judgement: Judgement::Fails(Failure::OwnDigitUntouched),
-            touched,
-        };
+    let own = bits::word(&errors, i) % 2;
+    if own == 0 {
+        return Judgement::Fails(Failure::OwnDigitUntouched);
     }
-    let mut others = errors;
-    others[stream] = own - 1;
-    let mut common: u32 = 0;
-    let mut either = [0u32; 8];
-    for s in 0..8 {
-        common += bits::ones_in_both(touched[s], others[s]);
-        either[s] = touched[s] | others[s];
+    if 0 < again {
+        return Judgement::Fails(Failure::ErrorTouchedBefore);
     }
-    if common == 0 {
-        return Judged {
-            judgement: Judgement::Stands,
-            touched: either,
-        };
-    }
-    Judged {
-        judgement: Judgement::Fails(Failure::ErrorTouchedBefore),
-        touched,
-    }
+    add_errors(touched, &errors, n);
+    Judgement::Stands
 }

@@ -8,11 +8,12 @@ use Rattle.bits.specs.Digits.{bit}
 use Rattle.code.specs.Bench.{s, P, T}
 use Rattle.code.specs.Code.{generator}
 use Rattle.code.specs.Checks.{count, checkMask, touchesInfo, touchesBy, besides}
+use Rattle.code.specs.Judging.{clashes, judge}
 use Rattle.card.specs.Bench.{checks, cardP, cardT}
 use Rattle.card.specs.Fields.{store, storeRows, storeChecks, storeStreams, storeCounts, cardOf}
 use Rattle.card.specs.Outcome.Outcome.{accepted, refused}
 use Rattle.card.specs.Reading.{byteField, kField, nField, mapField, wordAt, maskField, readHead, standingMask, readMasks, readRows, readGenerators}
-use Rattle.card.specs.Reading.{touchedBy, clashes, judge, readCheck, readChecks, readStreams, readFields, readCard}
+use Rattle.card.specs.Reading.{touchedBy, readCheck, readChecks, readStreams, readFields, readCard}
 
 -- T as the document has it, and with s0, s2 for stream 1
 abbrev pub bytesT : List ℕ

@@ -5,12 +5,13 @@ use Rattle.bits.specs.Digits.{bit}
 use Rattle.code.specs.Bench.{P, T}
 use Rattle.code.specs.Code.{generator}
 use Rattle.code.specs.Checks.{count, checkMask, touchesInfo, touchesBy, besides}
+use Rattle.code.specs.Judging.{clashes, judge}
 use Rattle.card.specs.Bench.{checks, cardP}
 use Rattle.card.specs.Fields.{store, storeRows, storeChecks, storeStreams, storeCounts, cardOf}
 use Rattle.card.specs.Layout.{bytes4, stands, mapOf, layoutMasks, optional, layoutHead, allRows, layoutRows, layoutChecks, layoutStreams, layout}
 use Rattle.card.specs.Outcome.Outcome.{accepted}
 use Rattle.card.specs.Reading.{byteField, kField, nField, mapField, wordAt, maskField, readHead, standingMask, readMasks, readRows, readGenerators}
-use Rattle.card.specs.Reading.{touchedBy, clashes, judge, readCheck, readChecks, readStreams, readFields, readCard}
+use Rattle.card.specs.Reading.{touchedBy, readCheck, readChecks, readStreams, readFields, readCard}
 use Rattle.outcomes.proofs.ReadCards.{bytesT}
 use Rattle.writer.specs.Written.{stated, masksAt, rowsOf, checksOf, streamOf, streamsOf, fieldsOf, written}
 use Rattle.writer.specs.Bench.{statedP, W, cardW, statedW}

@@ -6,7 +6,7 @@ use lib.IntN.{pos}
 use borrow.Author.Needs.{needs}
 use Rattle.majority.specs.Rule.{decoded}
 use Rattle.majority.proofs.Streams.{decoded-length}
-use Rattle.burst.specs.Parts.{cardOf}
+use Rattle.burst.specs.Parts.{cardFrom}
 use Rattle.burst.proofs.Answers.{answer-is}
 use Rattle.outcomes.proofs.Outcomes.{refused-is, given-is}
 use Rattle.outcomes.proofs.Received.{receive-full, receive-short, receive-beyond, receive-given}
@@ -63,7 +63,7 @@ same-length c = search needs
 returns-4 : tie.Need-returns-4
 returns-4 c number G =
     let a = c .before .before .before .before .before .before .before .before .before .before .before .before .args in
-    let card = cardOf number (a .generators .now) (a .counts .now) (a .checks .now) (a .k) (a .p) (a .m) in
+    let card = cardFrom number (a .generators .now) (a .counts .now) (a .checks .now) (a .k) (a .p) (a .m) in
     let n = c .before .before .before .before .before .before .before .before .after-first .ensures in
     let o : length (a .input .now) - a .m ≤ length (a .output .now) = rw n at (c .before .before .before .before .before .before .before .if2 .left) in
     given-is (length (a .input .now) - a .m) (decoded card (a .input .now)) (a .output .now) (decoded-length card (a .input .now))

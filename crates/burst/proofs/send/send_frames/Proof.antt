@@ -6,7 +6,7 @@ use lib.ListN.{length, length-set}
 use Rattle.bits.specs.Sums.{upTo}
 use Rattle.code.proofs.Registers.{frame-fits}
 use Rattle.code.proofs.Registers.{history-start}
-use Rattle.burst.specs.Parts.{cardOf, EveryCode}
+use Rattle.burst.specs.Parts.{cardFrom, EveryCode}
 use Rattle.burst.proofs.Sending.{SentBefore, sent-turn, sent-end}
 use Rattle.burst.proofs.send.send_frames.Statement.{statement}
 use Rattle.burst.proofs.send.send_frames.Tie as tie
@@ -25,7 +25,7 @@ loop-holds : tie.Need-loop-holds Inv-loop μ-loop
 unfolding upTo
 loop-holds c =
     let a = c .before .before .args in
-    (omega arith, refl, λ counts checks number G. (history-start (cardOf number (a .generators .now) counts checks (a .k) (a .p) (a .m)) _, refl))
+    (omega arith, refl, λ counts checks number G. (history-start (cardFrom number (a .generators .now) counts checks (a .k) (a .p) (a .m)) _, refl))
 
 information-requires : tie.Need-information-requires Inv-loop μ-loop
 information-requires c κs = tt
@@ -57,7 +57,7 @@ loop-again c =
       omega arith,
       length-set (l .output) (l .at) (c .frame .result) ∙ l .inv .1,
       λ counts checks number G.
-          sent-turn (cardOf number (a .generators .now) counts checks (a .k) (a .p) (a .m)) G (a .input .now) (a .output .now) (l .at) (info .result) (c .frame .result) (l .registers) (next .result) (l .output)
+          sent-turn (cardFrom number (a .generators .now) counts checks (a .k) (a .p) (a .m)) G (a .input .now) (a .output .now) (l .at) (info .result) (c .frame .result) (l .registers) (next .result) (l .output)
           (omega arith) (info .ensures) (next .ensures) (c .frame .ensures) (l .inv .2 counts checks number G),
     )
 
@@ -68,7 +68,7 @@ returns : tie.Need-returns Inv-loop μ-loop
 returns c counts checks number G =
     let a = c .before .before .before .before .args in
     let l = c .before .loop in
-    sent-end (cardOf number (a .generators .now) counts checks (a .k) (a .p) (a .m)) G (a .input .now) (a .output .now) (l .at) (l .registers) (l .output) (l .inv .0) (c .loop-test .left) (l .inv .2 counts checks number G)
+    sent-end (cardFrom number (a .generators .now) counts checks (a .k) (a .p) (a .m)) G (a .input .now) (a .output .now) (l .at) (l .registers) (l .output) (l .inv .0) (c .loop-test .left) (l .inv .2 counts checks number G)
 
 pub send-frames-spec : {M : Type 1} → statement M
 send-frames-spec =

@@ -5,7 +5,7 @@ use lib.ListN.{length}
 use borrow.Author.Needs.{needs}
 use Rattle.code.specs.Code.{sent}
 use Rattle.code.proofs.Sent.{sent-length}
-use Rattle.burst.specs.Parts.{cardOf}
+use Rattle.burst.specs.Parts.{cardFrom}
 use Rattle.burst.proofs.Answers.{answer-is}
 use Rattle.outcomes.proofs.Outcomes.{refused-is, given-is, under-full, under-short, under-beyond, under-sent}
 use Rattle.burst.proofs.send.send_under.Statement.{statement}
@@ -57,7 +57,7 @@ same-length c = search needs
 returns-4 : tie.Need-returns-4
 returns-4 c counts checks number G =
     let a = c .before .before .before .before .before .before .before .before .before .before .before .args in
-    let card = cardOf number (a .generators .now) counts checks (a .k) (a .p) (a .m) in
+    let card = cardFrom number (a .generators .now) counts checks (a .k) (a .p) (a .m) in
     given-is (length (a .input .now) + a .m) (sent card (a .input .now)) (a .output .now) (sent-length card (a .input .now))
     (answer-is (c .counted .result) (c .counted .ok) (c .counted .ensures)) (c .before .before .before .send-frames .ensures counts checks number G)
     ∙ sym (under-sent card (a .input .now) (a .output .now) (c .before .before .before .before .before .before .before .before .if1 .left) (c .before .before .before .before .before .before .before .if2 .left) (sym (c .before .before .before .before .before .before .any-beyond .ensures) ∙ c .before .before .before .before .before .if3 .left))

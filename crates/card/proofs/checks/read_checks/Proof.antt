@@ -1,58 +1,48 @@
 -- The rest of the checks from where the loops stand gives the whole answer (`RestChecks`, `CheckLoops`).
 use Prim.Native.Nat.{ℕ, _-_}
-use mathlib.Core.Path.{_≡_, refl, sym, ap, _∙_}
-use mathlib.Core.Logic.{⊎-elim}
+use mathlib.Core.Path.{ap, _∙_}
 use native.Mathlib.Omega.{arith}
+use lib.ListN.{replicate}
 use lib.Pow.{pow-pos}
-use denote.Ref.{now}
-use Rattle.orthogonal.specs.Judgements.{judgementOf}
-use Rattle.orthogonal.proofs.ErrorMasks.{failure-least}
-use Rattle.card.specs.Outcome.{outcomeOf}
-use Rattle.card.specs.Fields.{emptyCard}
-use Rattle.card.specs.Reading.{readStreams}
-use Rattle.card.specs.Parts.{verdictOf, partOf, checksPart}
-use Rattle.card.specs.declared.Verdict.{Verdict}
+use Rattle.orthogonal.specs.Judgements.{judgementNumber}
+use Rattle.orthogonal.proofs.Failures.{failure-least}
+use Rattle.card.specs.Reading.{mapRead, readStreams}
+use Rattle.card.specs.Reading.Read.{fault}
+use Rattle.card.specs.Parts.{codeBy, tablesWith}
 use Rattle.card.proofs.FieldValues.{has-value, has-fault, byte-is, standing-inside}
-use Rattle.card.proofs.HeadStages.{top-map}
-use Rattle.card.proofs.RestChecks.{streams-start}
-use Rattle.card.proofs.CheckLoops.{AtStreams, AtChecks, AtMasks, place-of, checks-begin, masks-begin, masks-next, checks-next, streams-next}
-use Rattle.card.proofs.CheckLoops.{streams-whole, streams-stop, checks-stop, masks-stop, check-stop, leftTables, tables-ended, tables-broken, tables-failed}
+use Rattle.card.proofs.HeadStages.{refused-by, read-whole, top-map}
+use Rattle.card.proofs.CheckLoops.{AtStreams, AtChecks, AtMasks, place-of, streams-begin, checks-begin, masks-begin, masks-next, checks-next, streams-next}
+use Rattle.card.proofs.CheckLoops.{streams-whole, streams-stop, checks-stop, masks-stop, check-stop}
 use borrow.Author.Needs.{needs}
 use Rattle.card.proofs.checks.read_checks.Statement.{statement}
 use Rattle.card.proofs.checks.read_checks.Tie as tie
 
 abbrev Inv-loop2 : tie.InvT-loop2
-Inv-loop2 bytes start card k p m generators verdict₀ counts checks₀ at₀ i count touched q place map rest₀ masks₀ j₀ q-end verdict checks at rest masks j =
-    AtMasks bytes card (checksPart card (readStreams bytes card (card .k) 0 start)) i q-end counts q place touched verdict checks masks rest at j
+Inv-loop2 bytes start sizes generators counts checks₀ k p verdict₀ at₀ i count touched q place map rest₀ masks₀ j₀ q-end checks verdict at rest masks j =
+    AtMasks bytes (codeBy sizes generators) (mapRead (tablesWith 0 (replicate 4 0) (replicate 512 0)) (readStreams bytes (codeBy sizes generators) (sizes .k) 0 start)) i q-end counts q place touched verdict checks masks rest at j
 
 abbrev μ-loop2 : tie.MeasureT-loop2
-μ-loop2 bytes start card k p m generators verdict₀ counts checks₀ at₀ i count touched q place map rest₀ masks₀ j₀ q-end verdict checks at rest masks j = card .p - j
+μ-loop2 bytes start sizes generators counts checks₀ k p verdict₀ at₀ i count touched q place map rest₀ masks₀ j₀ q-end checks verdict at rest masks j = sizes .p - j
 
 abbrev Inv-loop : tie.InvT-loop
-Inv-loop bytes start card k p m generators verdict₀ counts checks₀ at₀ i count touched₀ q₀ q-end verdict checks at touched q =
-    AtChecks bytes card (checksPart card (readStreams bytes card (card .k) 0 start)) i q-end counts verdict checks touched at q
+Inv-loop bytes start sizes generators counts checks₀ k p verdict₀ at₀ i count touched₀ q₀ q-end checks verdict at touched q =
+    AtChecks bytes (codeBy sizes generators) (mapRead (tablesWith 0 (replicate 4 0) (replicate 512 0)) (readStreams bytes (codeBy sizes generators) (sizes .k) 0 start)) i q-end counts verdict checks touched at q
 
 abbrev μ-loop : tie.MeasureT-loop
-μ-loop bytes start card k p m generators verdict₀ counts checks₀ at₀ i count touched₀ q₀ q-end verdict checks at touched q = q-end - q
+μ-loop bytes start sizes generators counts checks₀ k p verdict₀ at₀ i count touched₀ q₀ q-end checks verdict at touched q = q-end - q
 
 abbrev Inv-card : tie.InvT-card
-Inv-card bytes start card k p m generators verdict₀ counts₀ checks₀ at₀ i₀ verdict counts checks at i =
-    AtStreams bytes card (checksPart card (readStreams bytes card (card .k) 0 start)) verdict counts checks at i
+Inv-card bytes start sizes generators counts₀ checks₀ k p verdict₀ at₀ i₀ counts checks verdict at i =
+    AtStreams bytes (codeBy sizes generators) (mapRead (tablesWith 0 (replicate 4 0) (replicate 512 0)) (readStreams bytes (codeBy sizes generators) (sizes .k) 0 start)) verdict counts checks at i
 
 abbrev μ-card : tie.MeasureT-card
-μ-card bytes start card k p m generators verdict₀ counts₀ checks₀ at₀ i₀ verdict counts checks at i = card .k - i
+μ-card bytes start sizes generators counts₀ checks₀ k p verdict₀ at₀ i₀ counts checks verdict at i = sizes .k - i
 
 card-holds : tie.Need-card-holds Inv-loop2 μ-loop2 Inv-loop μ-loop Inv-card μ-card
 card-holds c =
-    record {
-      limits = record { k-most = omega arith; n-most = omega arith; p-most = omega arith; m-most = omega arith };
-      stream-most = omega arith;
-      inside = omega arith;
-      long-counts = refl;
-      long-checks = refl;
-      unbroken = refl;
-      same = streams-start _ _ _;
-    }
+    let a = c .before .args in
+    streams-begin _ (codeBy (a .sizes) (a .generators .now)) _ (record { k-most = omega arith; n-most = omega arith; p-most = omega arith; m-most = omega arith }) (omega arith)
+    (c .before .pre .1 .0) (c .before .pre .1 .1)
 
 byte-field-requires :
     tie.Need-byte-field-requires Inv-loop2 μ-loop2 Inv-loop μ-loop Inv-card μ-card
@@ -75,8 +65,8 @@ cast-counts c = omega arith
 mul-counts : tie.Need-mul-counts Inv-loop2 μ-loop2 Inv-loop μ-loop Inv-card μ-card
 mul-counts c = omega arith
 
-array-write-counts : tie.Need-array-write-counts Inv-loop2 μ-loop2 Inv-loop μ-loop Inv-card μ-card
-array-write-counts c = omega arith
+element-write-counts : tie.Need-element-write-counts Inv-loop2 μ-loop2 Inv-loop μ-loop Inv-card μ-card
+element-write-counts c = omega arith
 
 add-at : tie.Need-add-at Inv-loop2 μ-loop2 Inv-loop μ-loop Inv-card μ-card
 add-at c = let h = byte-is _ _ _ _ _ _ (has-value (c .before .before .before .byte-field .ensures) (c .before .count-read .given .1)) .inside in omega arith
@@ -97,7 +87,7 @@ shl-byte-field c = omega arith
 
 sub-byte-field : tie.Need-sub-byte-field Inv-loop2 μ-loop2 Inv-loop μ-loop Inv-card μ-card
 sub-byte-field c =
-    let p : ℕ = c .before .before .before .before .before .before .before .before .before .before .args .card .p in
+    let p : ℕ = c .before .before .before .before .before .before .before .before .before .args .sizes .p in
     let q = top-map p (omega arith) in
     let z = pow-pos p in
     omega arith
@@ -161,8 +151,8 @@ add-checks-2 c = record { fits = place-of (c .before .before .before .before .be
 mul-checks-3 : tie.Need-mul-checks-3 Inv-loop2 μ-loop2 Inv-loop μ-loop Inv-card μ-card
 mul-checks-3 c = record { fits = place-of (c .before .before .before .before .before .loop2 .inv) (c .before .before .before .before .loop2-test .taken) .bytes-fit }
 
-array-write-checks : tie.Need-array-write-checks Inv-loop2 μ-loop2 Inv-loop μ-loop Inv-card μ-card
-array-write-checks c = place-of (c .before .before .before .before .before .loop2 .inv) (c .before .before .before .before .loop2-test .taken) .slot-lt
+element-write-checks : tie.Need-element-write-checks Inv-loop2 μ-loop2 Inv-loop μ-loop Inv-card μ-card
+element-write-checks c = place-of (c .before .before .before .before .before .loop2 .inv) (c .before .before .before .before .loop2-test .taken) .slot-lt
 
 cast-at : tie.Need-cast-at Inv-loop2 μ-loop2 Inv-loop μ-loop Inv-card μ-card
 cast-at c = omega arith
@@ -187,11 +177,8 @@ loop2-again c =
     masks-next (c .before .before .before .before .before .loop2 .inv) (c .before .before .before .before .loop2-test .taken)
     (has-value (c .before .before .before .standing-mask .ensures) (c .before .mask-read .given .1))
 
-errors-by-requires : tie.Need-errors-by-requires Inv-loop2 μ-loop2 Inv-loop μ-loop Inv-card μ-card
-errors-by-requires c κs = search needs
-
-judge-requires : tie.Need-judge-requires Inv-loop2 μ-loop2 Inv-loop μ-loop Inv-card μ-card
-judge-requires c κs = search needs
+pass-requires : tie.Need-pass-requires Inv-loop2 μ-loop2 Inv-loop μ-loop Inv-card μ-card
+pass-requires c κs = search needs
 
 enum-known-judgement :
     tie.Need-enum-known-judgement Inv-loop2 μ-loop2 Inv-loop μ-loop Inv-card μ-card
@@ -212,11 +199,9 @@ loop-less c = omega arith
 
 loop-again : tie.Need-loop-again Inv-loop2 μ-loop2 Inv-loop μ-loop Inv-card μ-card
 loop-again c =
-    let judged = c .before .before .before in
-    let errors = judged .before in
-    let masks = errors .before .before .before in
-    checks-next (masks .before .loop2 .inv) (masks .loop2-test .left) (errors .errors-by .ensures) (judged .judge .ensures)
-    (ap judgementOf (c .before .enum-told4 .given .1))
+    let judged = c .before .before in
+    let masks = judged .before .before .before in
+    checks-next (masks .before .loop2 .inv) (masks .loop2-test .left) (judged .pass .ensures) (ap judgementNumber (c .enum-told4 .given .1))
 
 add-i : tie.Need-add-i Inv-loop2 μ-loop2 Inv-loop μ-loop Inv-card μ-card
 add-i c = omega arith
@@ -227,50 +212,39 @@ card-less c = omega arith
 card-again : tie.Need-card-again Inv-loop2 μ-loop2 Inv-loop μ-loop Inv-card μ-card
 card-again c = streams-next (c .before .loop .inv) (c .loop-test .left)
 
--- where the ways out of the streams meet
-settled : (c : tie.Left-card Inv-loop2 μ-loop2 Inv-loop μ-loop Inv-card μ-card) →
-    let a = c .before .before .before .before .args in
-    leftTables (a .card) (c .card-test .verdict) (c .card-test .counts) (c .card-test .checks) (c .card-test .at)
-    ≡ checksPart (a .card) (readStreams (now (a .bytes)) (a .card) (a .card .k) 0 (a .start))
-settled c =
-    ⊎-elim (λ w. tables-ended _ (w .1) (w .2) (w .3) (w .4) (c .before .card .inv .unbroken) (streams-whole (c .before .card .inv) (w .0 .left)))
-    (⊎-elim
-    (λ w.
-    tables-broken _ _ _ _ (w .5 ∙ (w .4 .ensures ∙ ap verdictOf (w .3 .given .1)))
-    (streams-stop (c .before .card .inv) (w .0 .taken) (has-fault (w .1 .ensures) (w .3 .given .1))))
-    (⊎-elim
-    (λ w.
-    tables-broken _ _ _ _ (w .11 ∙ (w .10 .ensures ∙ ap verdictOf (w .9 .given .1)))
-    (checks-stop (w .5 .inv) (w .6 .taken) (has-fault (w .7 .ensures) (w .9 .given .1))))
-    (⊎-elim
-    (λ w.
-    tables-broken _ _ _ _ (w .17 ∙ (w .16 .ensures ∙ ap verdictOf (w .15 .given .1)))
-    (masks-stop (w .11 .inv) (w .12 .taken) (has-fault (w .13 .ensures) (w .15 .given .1))))
-    (λ w.
-    tables-failed _ _ _ _ {o = w .5 .at} (w .21) (w .20 .ensures)
-    (check-stop (w .11 .inv) (w .12 .left) (w .15 .ensures) (w .16 .ensures) (ap judgementOf (w .18 .given .1)) (failure-least (w .18 .given .0 .0)))))))
-    (c .card-test .came)
-
-enum-told-5 : tie.Need-enum-told-5 Inv-loop2 μ-loop2 Inv-loop μ-loop Inv-card μ-card
-enum-told-5 c = search needs
-
-refused-part-requires :
-    tie.Need-refused-part-requires Inv-loop2 μ-loop2 Inv-loop μ-loop Inv-card μ-card
-refused-part-requires c κs = search needs
-
 returns : tie.Need-returns Inv-loop2 μ-loop2 Inv-loop μ-loop Inv-card μ-card
-returns c =
-    let e = c .before .enum-told5 .given .1 in
-    ap partOf (c .refused-part .ensures)
-    ∙ ap (λ (v : Verdict). record { outcome = outcomeOf v; at = 0; card = emptyCard }) e
-    ∙ sym (tables-broken _ _ _ _ e refl)
-    ∙ settled (c .before .before .before)
-
-enum-told-6 : tie.Need-enum-told-6 Inv-loop2 μ-loop2 Inv-loop μ-loop Inv-card μ-card
-enum-told-6 c = search needs
+returns c = let v = c .before .card .inv in read-whole _ _ (v .unbroken) ∙ streams-whole v (c .card-test .left)
 
 returns-2 : tie.Need-returns-2 Inv-loop2 μ-loop2 Inv-loop μ-loop Inv-card μ-card
-returns-2 c = sym (tables-ended _ refl refl refl refl (c .enum-told6 .given .1) refl) ∙ settled (c .before .before)
+returns-2 c =
+    let told = c .before .enum-told .given .1 in
+    let read = c .before .before .before in
+    refused-by _ _ (c .verdict-of .ensures) told
+    ∙ streams-stop (read .before .before .card .inv) (read .before .card-test .taken) (has-fault (read .byte-field .ensures) told)
+
+returns-3 : tie.Need-returns-3 Inv-loop2 μ-loop2 Inv-loop μ-loop Inv-card μ-card
+returns-3 c =
+    let told = c .before .enum-told2 .given .1 in
+    let read = c .before .before .before in
+    refused-by _ _ (c .verdict-of2 .ensures) told
+    ∙ checks-stop (read .before .before .loop .inv) (read .before .loop-test .taken) (has-fault (read .byte-field2 .ensures) told)
+
+returns-4 : tie.Need-returns-4 Inv-loop2 μ-loop2 Inv-loop μ-loop Inv-card μ-card
+returns-4 c =
+    let told = c .before .enum-told3 .given .1 in
+    let read = c .before .before .before in
+    refused-by _ _ (c .verdict-of3 .ensures) told
+    ∙ masks-stop (read .before .before .loop2 .inv) (read .before .loop2-test .taken) (has-fault (read .standing-mask .ensures) told)
+
+returns-5 : tie.Need-returns-5 Inv-loop2 μ-loop2 Inv-loop μ-loop Inv-card μ-card
+returns-5 c =
+    let failed = c .before .before in
+    let judged = failed .before .before in
+    let masks = judged .before .before .before in
+    let place : ℕ = masks .before .before .before .before .before .before .before .loop .at in
+    ap (λ n. fault n place) (c .refusal-of .ensures)
+    ∙ check-stop (masks .before .loop2 .inv) (masks .loop2-test .left) (judged .pass .ensures) (ap judgementNumber (failed .judgement .given .1))
+    (failure-least (failed .judgement .given .0 .0))
 
 pub read-checks-spec : {M : Type 1} → statement M
 read-checks-spec =
@@ -289,7 +263,7 @@ read-checks-spec =
     verdict-of-requires
     cast-counts
     mul-counts
-    array-write-counts
+    element-write-counts
     add-at
     cast-q-end
     loop-holds
@@ -313,15 +287,14 @@ read-checks-spec =
     add-checks
     add-checks-2
     mul-checks-3
-    array-write-checks
+    element-write-checks
     cast-at
     mul-at
     add-at-3
     add-j
     loop2-less
     loop2-again
-    errors-by-requires
-    judge-requires
+    pass-requires
     enum-known-judgement
     refusal-of-requires
     enum-told-4
@@ -331,8 +304,8 @@ read-checks-spec =
     add-i
     card-less
     card-again
-    enum-told-5
-    refused-part-requires
     returns
-    enum-told-6
-    returns-2)
+    returns-2
+    returns-3
+    returns-4
+    returns-5)

@@ -18,12 +18,12 @@ enum-known-map-read c = search needs
 enum-told : tie.Need-enum-told
 enum-told c = search needs
 
-fault-part-requires : tie.Need-fault-part-requires
-fault-part-requires c κs = search needs
+fault-head-requires : tie.Need-fault-head-requires
+fault-head-requires c κs = search needs
 
 returns : tie.Need-returns
 returns c =
-    refused-by (c .fault-part .ensures) (c .before .enum-told .given .1)
+    refused-by (c .fault-head .result .sizes) (c .fault-head .result .at) (c .fault-head .ensures) (c .before .enum-told .given .1)
     ∙ map-faulty _ (has-fault (c .before .before .before .byte-field .ensures) (c .before .enum-told .given .1))
 
 -- byte 0 is read
@@ -39,12 +39,12 @@ enum-known-number-read c = search needs
 enum-told-2 : tie.Need-enum-told-2
 enum-told-2 c = search needs
 
-fault-part-requires-2 : tie.Need-fault-part-requires-2
-fault-part-requires-2 c κs = search needs
+fault-head-requires-2 : tie.Need-fault-head-requires-2
+fault-head-requires-2 c κs = search needs
 
 returns-2 : tie.Need-returns-2
 returns-2 c =
-    refused-by (c .fault-part2 .ensures) (c .before .enum-told2 .given .1)
+    refused-by (c .fault-head2 .result .sizes) (c .fault-head2 .result .at) (c .fault-head2 .ensures) (c .before .enum-told2 .given .1)
     ∙ number-faulty _ (map-value (c .before .before .before .before)) (has-fault (c .before .before .before .byte-field2 .ensures) (c .before .enum-told2 .given .1))
 
 read-sizes-requires : tie.Need-read-sizes-requires
@@ -64,12 +64,12 @@ read-head-spec =
     byte-field-requires
     enum-known-map-read
     enum-told
-    fault-part-requires
+    fault-head-requires
     returns
     byte-field-requires-2
     enum-known-number-read
     enum-told-2
-    fault-part-requires-2
+    fault-head-requires-2
     returns-2
     read-sizes-requires
     returns-3)

@@ -28,12 +28,12 @@ enum-known-m-read c = search needs
 enum-told : tie.Need-enum-told
 enum-told c = search needs
 
-fault-part-requires : tie.Need-fault-part-requires
-fault-part-requires c κs = search needs
+fault-head-requires : tie.Need-fault-head-requires
+fault-head-requires c κs = search needs
 
 returns : tie.Need-returns
 returns c =
-    refused-by (c .fault-part .ensures) (c .before .enum-told .given .1)
+    refused-by (c .fault-head .result .sizes) (c .fault-head .result .at) (c .fault-head .ensures) (c .before .enum-told .given .1)
     ∙ m-faulty (c .before .before .before .before .before .pre) (has-fault (c .before .before .before .byte-field .ensures) (c .before .enum-told .given .1))
 
 add-t10 : tie.Need-add-t10
@@ -68,7 +68,7 @@ read-memory-spec =
     byte-field-requires
     enum-known-m-read
     enum-told
-    fault-part-requires
+    fault-head-requires
     returns
     add-t10
     cast-t16

@@ -19,12 +19,12 @@ enum-known-k-read c = search needs
 enum-told : tie.Need-enum-told
 enum-told c = search needs
 
-fault-part-requires : tie.Need-fault-part-requires
-fault-part-requires c κs = search needs
+fault-head-requires : tie.Need-fault-head-requires
+fault-head-requires c κs = search needs
 
 returns : tie.Need-returns
 returns c =
-    refused-by (c .fault-part .ensures) (c .before .enum-told .given .1)
+    refused-by (c .fault-head .result .sizes) (c .fault-head .result .at) (c .fault-head .ensures) (c .before .enum-told .given .1)
     ∙ k-faulty (c .before .before .before .before .before .pre) (has-fault (c .before .before .before .k-field .ensures) (c .before .enum-told .given .1))
 
 -- k is read
@@ -47,13 +47,13 @@ enum-known-n-read c = search needs
 enum-told-2 : tie.Need-enum-told-2
 enum-told-2 c = search needs
 
-fault-part-requires-2 : tie.Need-fault-part-requires-2
-fault-part-requires-2 c κs = search needs
+fault-head-requires-2 : tie.Need-fault-head-requires-2
+fault-head-requires-2 c κs = search needs
 
 returns-2 : tie.Need-returns-2
 returns-2 c =
     let k = c .before .before .before .before in
-    refused-by (c .fault-part2 .ensures) (c .before .enum-told2 .given .1)
+    refused-by (c .fault-head2 .result .sizes) (c .fault-head2 .result .at) (c .fault-head2 .ensures) (c .before .enum-told2 .given .1)
     ∙ n-faulty (k .before .before .before .before .before .pre) (k-value k) (has-fault (c .before .before .before .n-field .ensures) (c .before .enum-told2 .given .1))
 
 read-memory-requires : tie.Need-read-memory-requires
@@ -75,14 +75,14 @@ read-sizes-spec =
     k-field-requires
     enum-known-k-read
     enum-told
-    fault-part-requires
+    fault-head-requires
     returns
     cast-n-field
     add-n-field
     n-field-requires
     enum-known-n-read
     enum-told-2
-    fault-part-requires-2
+    fault-head-requires-2
     returns-2
     read-memory-requires
     returns-3)
