@@ -121,7 +121,7 @@
  * - No memory is allocated, no file or device is touched, nothing is kept from one call to the next. So
  *   the functions may be called from several threads at once, each with an output of its own.
  * - A call takes less than BURST_STACK_BYTES of stack, most of it for the card that is being read:
- *   measured, 7,240 bytes by burst_send, 10,008 by burst_receive and 9,336 by card_write. `tests/run`
+ *   measured, 5,016 bytes by burst_send, 5,544 by burst_receive and 7,112 by card_write. `tests/run`
  *   measures it again.
  * - Each call ends. It takes time in proportion to the frames, after the reading of the card.
  * - Of the C library only memcpy and memset are needed.
