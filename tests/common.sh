@@ -29,6 +29,11 @@ build_program() {
     tests/rt_apart check "$1"
 }
 
+# Compiles the measuring program over the library that is named.
+build_bench() {
+    $compiler $warnings -O2 -Iinclude tests/bench.c tests/plain.c tests/plain_card.c tests/cards.c tests/reference.c "$library" -lm -o "$built/bench"
+}
+
 compile_trace_driver() {
     $compiler $warnings -O2 -g $(sanitizers) tests/trace_driver.c tests/trace.c tests/reference.c tests/cards.c -lm -o "$built/trace_driver"
 }

@@ -44,7 +44,7 @@ pub fn beyond(frame: u8, n: usize) -> bool
 pub fn any_beyond(frames: &[u8], n: usize) -> bool
     ensures { λ r. ⌜ r ≡ anyBeyond n (now (frames .entry)) ⌝ }
 {
-    // An or over all frames, with no branch to leave by: every frame is tested anyway before a byte is written.
+    // An or over all frames, and no branch in the loop: in a burst that is taken every frame has to be looked at anyway.
     let mut all: u8 = 0;
     let mut i = 0;
     while i < frames.len() {

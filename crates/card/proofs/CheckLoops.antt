@@ -10,7 +10,7 @@ use lib.Pow.{pow-pos}
 use lib.Seq.{getD-set-same, getD-set-other}
 use Rattle.bits.proofs.Cases.{same-or-not}
 use Rattle.bits.proofs.Lists.{zeros-at, snoc-last, snoc-other}
-use Rattle.orthogonal.specs.Pass.{Passed, wordCode, streamsOf, paritiesOf, firstMasks}
+use Rattle.orthogonal.specs.Pass.{Passed, wordCode, informationStreams, parityStreams, firstMasks}
 use Rattle.card.specs.Reading.{Read, mapRead, byteField, standingMask, judgeAfter, readStreams}
 use Rattle.card.specs.Reading.Field.{value, bad}
 use Rattle.card.specs.Reading.Read.{got, fault}
@@ -117,7 +117,7 @@ place-of v l = place (v .stream-lt) (v .limits .k-most) (v .check-lt) (v .count-
 -- a check whose masks are all read is judged as the definition has it
 module _ {bs : List ℕ} {c : Card} {r : Read Tables} {i count : ℕ} {counts : List ℕ} {q at₀ : ℕ} {touched : List ℕ} {verdict : Verdict} {checks masks : List ℕ} {rest at j : ℕ}
     (v : AtMasks bs c r i count counts q at₀ touched verdict checks masks rest at j) (whole : c .p ≤ j) {number : ℕ} {after : List ℕ}
-    (P : Passed (wordCode (c .generators) (streamsOf (c .k)) (paritiesOf (c .k) (c .p))) i (firstMasks (paritiesOf (c .k) (c .p)) masks) touched number after) where
+    (P : Passed (wordCode (c .generators) (informationStreams (c .k)) (parityStreams (c .k) (c .p))) i (firstMasks (parityStreams (c .k) (c .p)) masks) touched number after) where
   all-seen : length (v .seen) ≡ c .p
   all-seen = v .seen-are .many ∙ le-antisymm (v .mask-most) whole
 
@@ -248,7 +248,7 @@ module _ {bs : List ℕ} {c : Card} {r : Read Tables} {verdict : Verdict} {count
 
     -- the check is whole, and is judged
     module _ (whole : c .p ≤ j) {number : ℕ} {after : List ℕ}
-        (P : Passed (wordCode (c .generators) (streamsOf (c .k)) (paritiesOf (c .k) (c .p))) i (firstMasks (paritiesOf (c .k) (c .p)) masks) touched number after) where
+        (P : Passed (wordCode (c .generators) (informationStreams (c .k)) (parityStreams (c .k) (c .p))) i (firstMasks (parityStreams (c .k) (c .p)) masks) touched number after) where
       pub checks-next : number ≡ 0 → AtChecks bs c r i count counts verdict checks after at (q + 1)
       checks-next e =
           record {

@@ -13,7 +13,7 @@ use Rattle.bits.proofs.Digits.{bit-of-zero}
 use Rattle.code.specs.declared.Card.{Card}
 use Rattle.code.proofs.Touches.{touches-by-le}
 use Rattle.code.proofs.Judging.{none-same, judge-same}
-use Rattle.orthogonal.specs.Pass.{holds, Passed, wordCode, streamsOf, paritiesOf, firstMasks}
+use Rattle.orthogonal.specs.Pass.{holds, Passed, wordCode, informationStreams, parityStreams, firstMasks}
 use Rattle.orthogonal.proofs.Within.{passed-within}
 use Rattle.card.specs.Reading.{maskAt, touchedBy, judgeAfter}
 
@@ -39,15 +39,15 @@ module _ (c : Card) (n-most : c .k + c .p ≤ 8) (m-most : c .m < 32) (vs masks 
       (le-or-lt (c .p) j))
 
   module _ {i number : ℕ} {touched after : List ℕ}
-      (P : Passed (wordCode (c .generators) (streamsOf (c .k)) (paritiesOf (c .k) (c .p))) i (firstMasks (paritiesOf (c .k) (c .p)) masks) touched number after) where
+      (P : Passed (wordCode (c .generators) (informationStreams (c .k)) (parityStreams (c .k) (c .p))) i (firstMasks (parityStreams (c .k) (c .p)) masks) touched number after) where
     passed : Passed c i (maskAt vs) touched number after
     passed =
-        let k-is : streamsOf (c .k) ≡ c .k = omega arith in
-        let p-is : paritiesOf (c .k) (c .p) ≡ c .p = omega arith in
+        let k-is : informationStreams (c .k) ≡ c .k = omega arith in
+        let p-is : parityStreams (c .k) (c .p) ≡ c .p = omega arith in
         passed-within c (omega arith) (maskAt vs) within
         (subst (λ (f : ℕ → ℕ). Passed (wordCode (c .generators) (c .k) (c .p)) i f touched number after) masks-are
         (subst (λ k. Passed (wordCode (c .generators) k (c .p)) i (firstMasks (c .p) masks) touched number after) k-is
-        (subst (λ p. Passed (wordCode (c .generators) (streamsOf (c .k)) p) i (firstMasks p masks) touched number after) p-is P)))
+        (subst (λ p. Passed (wordCode (c .generators) (informationStreams (c .k)) p) i (firstMasks p masks) touched number after) p-is P)))
 
     module _ {earlier : List (List ℕ)} (u : Union c earlier touched) where
       pub judged-same : judgeAfter c i earlier vs ≡ number

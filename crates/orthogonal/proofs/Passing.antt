@@ -17,7 +17,7 @@ use Rattle.bits.proofs.Lists.{zeros-at, part-at, part-rest}
 use Rattle.bits.proofs.Digits.{bit-le, bit-zero, bit-of-zero, bit-and, bit-or, from-digits-bits}
 use Rattle.code.specs.Checks.{touchesBy, besides}
 use Rattle.code.specs.Judging.{clashes, judge}
-use Rattle.orthogonal.specs.Pass.{holds, Passed, wordCode, streamsOf, paritiesOf, firstMasks}
+use Rattle.orthogonal.specs.Pass.{holds, Passed, wordCode, informationStreams, parityStreams, firstMasks}
 use Rattle.orthogonal.proofs.WordCode.{touches-beyond}
 
 -- the errors of the first n streams added to those of before
@@ -152,7 +152,7 @@ module _ (generators masks before : List ℕ) (k p i : ℕ) where
                 ∙ omega (arith, touches-beyond generators masks k p b s ls)
 
 -- for the streams that there are words for
-pub for-streams : {generators before after : List ℕ} {i number streams parities : ℕ} (masks : List ℕ) (k p : ℕ) → streams ≡ streamsOf k → parities ≡ min p (8 - streams)
+pub for-streams : {generators before after : List ℕ} {i number streams parities : ℕ} (masks : List ℕ) (k p : ℕ) → streams ≡ informationStreams k → parities ≡ min p (8 - streams)
     → Passed (wordCode generators streams parities) i (firstMasks parities masks) before number after
-    → Passed (wordCode generators (streamsOf k) (paritiesOf k p)) i (firstMasks (paritiesOf k p) masks) before number after
+    → Passed (wordCode generators (informationStreams k) (parityStreams k p)) i (firstMasks (parityStreams k p) masks) before number after
 for-streams masks k p e q P = rw (q, e) at P

@@ -15,14 +15,18 @@ use Rattle.code.specs.Checks.{touchesInfo, touchesBy}
 use Rattle.orthogonal.specs.Pass.{wordCode, firstMasks}
 
 module _ (generators masks : List ℕ) (k p b s : ℕ) where
-  -- an error of an information stream
-  pub touches-information : s < k
-      → sumBelow p (λ j. sumBelow 32 (λ a. bit (getD masks j 0) a * back (bit (getD generators (s * 8 + j) 0)) a b)) % 2 ≡ touchesBy (wordCode generators k p) (firstMasks p masks) b s
+  -- an error of an information stream, as the sum over the parity streams
+  pub information-sum :
+      sumBelow p (λ j. sumBelow 32 (λ a. bit (getD masks j 0) a * back (bit (getD generators (s * 8 + j) 0)) a b)) % 2
+      ≡ touchesInfo (wordCode generators 0 p) (firstMasks p masks) b s
+  unfolding touchesInfo generator
+  information-sum =
+      ap (λ x. x % 2)
+      (sum-same p _ _ (λ j h. sum-cong 32 (λ a. ap (λ x. bit x a * back (bit (getD generators (s * 8 + j) 0)) a b) (sym (getD-take p masks j 0 h)))))
+
+  pub touches-information : s < k → touchesInfo (wordCode generators 0 p) (firstMasks p masks) b s ≡ touchesBy (wordCode generators k p) (firstMasks p masks) b s
   unfolding touchesBy touchesInfo generator
-  touches-information l =
-      rw (lt-ltb s k l)
-      (ap (λ x. x % 2)
-      (sum-same p _ _ (λ j h. sum-cong 32 (λ a. ap (λ x. bit x a * back (bit (getD generators (s * 8 + j) 0)) a b) (sym (getD-take p masks j 0 h))))))
+  touches-information l = rw (lt-ltb s k l)
 
   -- one of a parity stream
   pub touches-parity : k ≤ s → s < k + p → bit (getD masks (s - k) 0) b ≡ touchesBy (wordCode generators k p) (firstMasks p masks) b s

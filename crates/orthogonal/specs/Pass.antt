@@ -25,11 +25,11 @@ abbrev pub wordCode : List ℕ → ℕ → ℕ → Card
 wordCode generators k p = record { number = 0; k = k; p = p; m = 31; generators = generators; counts = []; checks = [] }
 
 -- how many information and parity streams there are words for
-abbrev pub streamsOf : ℕ → ℕ
-streamsOf k = min k 8
+abbrev pub informationStreams : ℕ → ℕ
+informationStreams k = min k 8
 
-abbrev pub paritiesOf : ℕ → ℕ → ℕ
-paritiesOf k p = min p (8 - streamsOf k)
+abbrev pub parityStreams : ℕ → ℕ → ℕ
+parityStreams k p = min p (8 - informationStreams k)
 
 -- a check's masks, those of the first p parity streams
 abbrev pub firstMasks : ℕ → List ℕ → ℕ → ℕ

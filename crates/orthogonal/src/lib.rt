@@ -7,9 +7,9 @@ ghost use lib.ListN.{length, getD, drop};
 ghost use lib.Bits.{bitOr};
 ghost use Rattle.bits.specs.Sums.{sumBelow, upTo, back};
 ghost use Rattle.bits.specs.Digits.{bit};
-ghost use Rattle.code.specs.Checks.{touchesBy, besides};
+ghost use Rattle.code.specs.Checks.{touchesInfo, touchesBy, besides};
 ghost use Rattle.orthogonal.specs.Judgements.{judgementNumber};
-ghost use Rattle.orthogonal.specs.Pass.{Passed, wordCode, streamsOf, paritiesOf, firstMasks};
+ghost use Rattle.orthogonal.specs.Pass.{Passed, wordCode, informationStreams, parityStreams, firstMasks};
 
 // Why a check does not stand. Each case has its published number, by `failureNumber`.
 pub enum Failure {
@@ -40,8 +40,7 @@ fn through_terms(mask: u32, generator: u32) -> u32
 // The errors of information stream s that a check touches.
 fn information_errors(generators: &[u32; 32], masks: &[u32; 8], p: usize, s: usize) -> u32
     requires { ⌜ (p ≤ 8) × (s < 8) ⌝ }
-    ensures { λ r. ⌜ ((b : ℕ) → b < 32 → bit r b ≡ sumBelow p (λ j.
-        sumBelow 32 (λ a. bit (getD (now (masks .entry)) j 0) a * back (bit (getD (now (generators .entry)) (s * 8 + j) 0)) a b)) % 2) ⌝ }
+    ensures { λ r. ⌜ ((b : ℕ) → b < 32 → bit r b ≡ touchesInfo (wordCode (now (generators .entry)) 0 p) (firstMasks p (now (masks .entry))) b s) ⌝ }
 {
     let mut sum: u32 = 0;
     let mut j = 0;
@@ -80,8 +79,8 @@ fn add_errors(touched: &mut [u32], errors: &[u32; 8], streams: usize)
     let mut s = 0;
     while s < streams {
         let before = touched[s];
-        let own = errors[s];
-        touched[s] = before | own;
+        let more = errors[s];
+        touched[s] = before | more;
         s += 1;
     }
 }
@@ -97,7 +96,7 @@ pub fn pass(
     p: usize,
     i: usize,
 ) -> Judgement
-    ensures { λ r. ⌜ Passed (wordCode (now (generators .entry)) (streamsOf k) (paritiesOf k p)) i (firstMasks (paritiesOf k p) (now (masks .entry)))
+    ensures { λ r. ⌜ Passed (wordCode (now (generators .entry)) (informationStreams k) (parityStreams k p)) i (firstMasks (parityStreams k p) (now (masks .entry)))
         (now (touched .entry)) (judgementNumber r) (now (touched .exit)) ⌝ }
 {
     let streams = bits::at_most(k, 8);

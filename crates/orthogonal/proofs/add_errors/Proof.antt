@@ -29,11 +29,11 @@ mul-before c = search needs
 slice-read-before : tie.Need-slice-read-before Inv-loop μ-loop
 slice-read-before c = search needs
 
-mul-own : tie.Need-mul-own Inv-loop μ-loop
-mul-own c = search needs
+mul-more : tie.Need-mul-more Inv-loop μ-loop
+mul-more c = search needs
 
-element-copy-out-own : tie.Need-element-copy-out-own Inv-loop μ-loop
-element-copy-out-own c = search needs
+element-copy-out-more : tie.Need-element-copy-out-more Inv-loop μ-loop
+element-copy-out-more c = search needs
 
 mul-touched : tie.Need-mul-touched Inv-loop μ-loop
 mul-touched c = search needs
@@ -75,8 +75,8 @@ add-errors-spec =
     loop-holds
     mul-before
     slice-read-before
-    mul-own
-    element-copy-out-own
+    mul-more
+    element-copy-out-more
     mul-touched
     slice-write-touched
     add-s

@@ -9,6 +9,7 @@ use Rattle.bits.specs.Sums.{sumBelow, back}
 use Rattle.bits.specs.Digits.{bit}
 use Rattle.bits.proofs.Sums.{sum-more}
 use Rattle.bits.proofs.Digits.{bit-of-zero, bit-xor}
+use Rattle.orthogonal.proofs.WordCode.{information-sum}
 use Rattle.orthogonal.proofs.information_errors.Statement.{statement}
 use Rattle.orthogonal.proofs.information_errors.Tie as tie
 
@@ -65,8 +66,9 @@ returns c =
     let a = c .before .before .args in
     λ b h.
     c .before .loop .inv .1 b h
-    ∙ ap (λ n. sumBelow n (λ j. sumBelow 32 (λ i. bit (getD (a .masks .now) j 0) i * back (bit (getD (a .generators .now) (a .s * 8 + j) 0)) i b)) % 2)
+    ∙ (ap (λ n. sumBelow n (λ j. sumBelow 32 (λ i. bit (getD (a .masks .now) j 0) i * back (bit (getD (a .generators .now) (a .s * 8 + j) 0)) i b)) % 2)
     (le-antisymm (c .before .loop .inv .0) (c .loop-test .left))
+    ∙ information-sum (a .generators .now) (a .masks .now) 0 (a .p) b (a .s))
 
 pub information-errors-spec : {M : Type 1} → statement M
 information-errors-spec =

@@ -1,5 +1,5 @@
 use borrow.Author.Needs.{needs}
-use Rattle.clients.proofs.CheckClauses.{s0-stands, s0-added}
+use Rattle.clients.proofs.CheckClauses.{s0-stands}
 use Rattle.clients.proofs.checks.q_s0_stands.Statement.{statement}
 use Rattle.clients.proofs.checks.q_s0_stands.Tie as tie
 
@@ -7,7 +7,7 @@ after-requires : tie.Need-after-requires
 after-requires c κs = search needs
 
 returns : tie.Need-returns
-returns c = (s0-stands (c .after .ensures), s0-added (c .after .ensures))
+returns c = s0-stands (c .after .ensures)
 
 pub q-s0-stands-spec : {M : Type 1} → statement M
 q-s0-stands-spec = tie.close (tie.spec after-requires returns)
