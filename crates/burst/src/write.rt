@@ -4,7 +4,7 @@ ghost use Prim.Native.Nat.{_≤_};
 ghost use lib.ListN.{length};
 ghost use Rattle.code.specs.Code.{mostFrames};
 ghost use Rattle.outcomes.specs.Outcome.{outcome};
-ghost use Rattle.writer.specs.Written.{written};
+ghost use Rattle.card.specs.Written.{written};
 ghost use Rattle.writer.specs.Outcome.{writeUnder, writeOf};
 ghost use Rattle.writer.specs.Claims.{CarriesOn};
 use crate::answer::counted;

@@ -1,5 +1,5 @@
 -- A card is accepted exactly when its bytes are those of fields within the limits whose checks are orthogonal; what an accepted card guarantees;
--- and the promise of `read_card` from its equation with `readCard`.
+-- and the promises of `read_under` and `read_card` from their equation with `readUnder`.
 use Prim.Native.Nat.{ℕ, _≤_, _<_}
 use mathlib.Core.Path.{_≡_, sym, ap, subst, _∙_}
 use mathlib.Core.List.{List}
@@ -9,10 +9,12 @@ use Rattle.card.specs.Outcome.{CardOutcome, outcomeOf, published}
 use Rattle.card.specs.Outcome.Outcome.{accepted}
 use Rattle.code.specs.Guarantees.{Guarantees}
 use Rattle.card.specs.Fields.{Fields, cardOf}
-use Rattle.card.specs.Reading.{answer, readCard}
-use Rattle.card.specs.Layout.{Acceptable}
-use Rattle.card.specs.Promise.{CardPromise}
+use Rattle.card.specs.Reading.{answer, readUnder, readCard}
+use Rattle.card.specs.Layout.{layout, Acceptable}
+use Rattle.card.specs.Promise.{CardPromise, OneForm}
 use Rattle.card.specs.declared.CardRead.{CardRead}
+use Rattle.card.specs.declared.CardRule.{CardRule}
+use Rattle.card.specs.declared.CardRule.the-variants.{Present}
 use Rattle.card.proofs.WholeReading.{accepted-read}
 use Rattle.card.proofs.Orthogonality.{standing-truly}
 use Rattle.card.proofs.Limits.{read-in, read-standing}
@@ -20,55 +22,71 @@ use Rattle.card.proofs.Laid.{read-laid}
 use Rattle.card.proofs.ChecksBack.{fields-back}
 use Rattle.card.proofs.CardLength.{layout-length}
 use Rattle.card.proofs.Guaranteed.{guaranteed}
+use Rattle.card.proofs.Defaults.{same-fields}
 
--- ---- an accepted card
-pub accepted-fields : (bs : List ℕ) → ((i : ℕ) → getD bs i 0 < 256) → readCard bs .outcome ≡ accepted
-    → (f : Fields) × Acceptable bs f × (readCard bs .card ≡ cardOf f)
-accepted-fields bs bytes e =
-    let a = accepted-read bs e in
-    let w = read-in bs (a .0) (a .1) (a .2) in (
-      a .0,
-      record {
-        limits = w;
-        orthogonal = standing-truly (a .0) w (read-standing bs (a .0) (a .1) (a .2));
-        bytes-are = read-laid bs bytes (a .0) (a .1) (a .2);
-      },
-      a .3,
-    )
+module _ (rule : CardRule) (bs : List ℕ) where
+  -- ---- an accepted card
+  pub accepted-fields : ((i : ℕ) → getD bs i 0 < 256) → readUnder rule bs .outcome ≡ accepted
+      → (f : Fields) × Acceptable rule bs f × (readUnder rule bs .card ≡ cardOf f)
+  accepted-fields bytes e =
+      let a = accepted-read rule bs e in
+      let w = read-in rule bs (a .0) (a .1) (a .2) in (
+        a .0,
+        record {
+          limits = w;
+          orthogonal = standing-truly (a .0) (w .ranges) (read-standing rule bs (a .0) (a .1) (a .2));
+          bytes-are = read-laid bs bytes rule (a .0) (a .1) (a .2);
+        },
+        a .3,
+      )
 
-pub accepted-length : (bs : List ℕ) → ((i : ℕ) → getD bs i 0 < 256) → readCard bs .outcome ≡ accepted → length bs ≤ 1163
-accepted-length bs bytes e =
-    let a = accepted-fields bs bytes e in
-    let l = layout-length (a .0) (a .1 .limits) in
-    let q = ap length (a .1 .bytes-are) in
-    omega arith
+  pub accepted-length : ((i : ℕ) → getD bs i 0 < 256) → readUnder rule bs .outcome ≡ accepted → length bs ≤ 1163
+  accepted-length bytes e =
+      let a = accepted-fields bytes e in
+      let l = layout-length (a .0) (a .1 .limits .ranges) in
+      let q = ap length (a .1 .bytes-are) in
+      omega arith
 
-pub accepted-guarantees : (bs : List ℕ) → readCard bs .outcome ≡ accepted → Guarantees (readCard bs .card)
-accepted-guarantees bs e =
-    let a = accepted-read bs e in
-    let w = read-in bs (a .0) (a .1) (a .2) in
-    subst Guarantees (sym (a .3)) (guaranteed (a .0) w (standing-truly (a .0) w (read-standing bs (a .0) (a .1) (a .2))))
+  accepted-guarantees : readUnder rule bs .outcome ≡ accepted → Guarantees (readUnder rule bs .card)
+  accepted-guarantees e =
+      let a = accepted-read rule bs e in
+      let w = read-in rule bs (a .0) (a .1) (a .2) .ranges in
+      subst Guarantees (sym (a .3)) (guaranteed (a .0) w (standing-truly (a .0) w (read-standing rule bs (a .0) (a .1) (a .2))))
 
--- ---- a card that must be accepted
-pub reads-back : (bs : List ℕ) (f : Fields) → Acceptable bs f → readCard bs ≡ record { outcome = accepted; card = cardOf f }
-unfolding readCard
-reads-back bs f a = ap answer (fields-back bs f a .1)
+  -- ---- a card that must be accepted
+  pub reads-back : (f : Fields) → Acceptable rule bs f → readUnder rule bs ≡ record { outcome = accepted; card = cardOf f }
+  unfolding readUnder
+  reads-back f a = ap answer (fields-back rule bs f a .1)
 
--- ---- the promise of `read_card`
-pub card-promise : (bs : List ℕ) (r : CardRead) → ((i : ℕ) → getD bs i 0 < 256) → published r ≡ readCard bs → CardPromise bs r
-card-promise bs r bytes e =
-    record {
-      is-read = e;
-      only-these = λ v.
-          let a = accepted-fields bs bytes (outcome-read v) in
-          (a .0, record { acceptable = a .1; card-is = card-read ∙ a .2 });
-      all-these = λ f a. ap (λ (x : CardOutcome). x .outcome) (e ∙ reads-back bs f a);
-      length-most = λ v. accepted-length bs bytes (outcome-read v);
-      guaranteed = λ v. subst Guarantees (sym card-read) (accepted-guarantees bs (outcome-read v));
-    }
-  where
-    card-read : r .card ≡ readCard bs .card
+  -- ---- the promise of `read_under`
+  module _ (r : CardRead) (bytes : (i : ℕ) → getD bs i 0 < 256) (e : published r ≡ readUnder rule bs) where
+    card-read : r .card ≡ readUnder rule bs .card
     card-read = ap (λ (x : CardOutcome). x .card) e
 
-    outcome-read : outcomeOf (r .verdict) ≡ accepted → readCard bs .outcome ≡ accepted
+    outcome-read : outcomeOf (r .verdict) ≡ accepted → readUnder rule bs .outcome ≡ accepted
     outcome-read v = sym (ap (λ (x : CardOutcome). x .outcome) e) ∙ v
+
+    pub card-promise : CardPromise rule bs r
+    card-promise =
+        record {
+          is-read = e;
+          only-these = λ v.
+              let a = accepted-fields bytes (outcome-read v) in
+              (a .0, record { acceptable = a .1; card-is = card-read ∙ a .2 });
+          all-these = λ f a. ap (λ (x : CardOutcome). x .outcome) (e ∙ reads-back f a);
+          length-most = λ v. accepted-length bytes (outcome-read v);
+          guaranteed = λ v. subst Guarantees (sym card-read) (accepted-guarantees (outcome-read v));
+        }
+
+-- ---- what `read_card` promises besides
+pub one-form : (bs : List ℕ) (r : CardRead) → CardPromise Present bs r → OneForm bs r
+one-form bs r promise other small v a =
+    let own = promise .only-these v in
+    let its = accepted-fields Present other small a in
+    record {
+      equal-bytes = λ q.
+          its .1 .bytes-are
+          ∙ ap layout (same-fields (its .0) (own .0) (its .1 .limits) (own .1 .acceptable .limits) (sym (its .2) ∙ q ∙ own .1 .card-is))
+          ∙ sym (own .1 .acceptable .bytes-are);
+      equal-values = λ q. ap (λ (l : List ℕ). readCard l .card) q ∙ sym (ap (λ (x : CardOutcome). x .card) (promise .is-read));
+    }

@@ -11,7 +11,7 @@ use lib.Dec.{eqb}
 use borrow.Author.Tests.{eq-eqb, ne-eqb}
 use Rattle.bits.proofs.Cases.{same-or-not}
 use Rattle.card.specs.Fields.{Head, Stream, Fields}
-use Rattle.card.specs.Layout.{bytes4, layoutMasks, optional, layoutHead, allRows, layoutRows, layoutChecks, layoutStreams, layout, AllMasksIn, AllStreamsIn, InLimits}
+use Rattle.card.specs.Layout.{bytes4, layoutMasks, optional, layoutHead, allRows, layoutRows, layoutChecks, layoutStreams, layout, AllMasksIn, AllStreamsIn, InRanges}
 use Rattle.card.proofs.LayoutLaws.{rows-long}
 
 pub mask-length : (v : ℕ) → length (cond (eqb v 0) [] (bytes4 v)) ≤ 4
@@ -75,7 +75,7 @@ few-generators (suc (suc (suc (suc (suc k))))) p h l = absurd (omega arith)
 sum-up : (k p x y z : ℕ) → k ≤ 4 → k * p ≤ 16 → x ≤ 5 → y ≤ 4 * (k * p) → z ≤ k * (17 + 64 * p) → {t u : ℕ} → t ≡ x + suc (suc u) → u ≡ y + z → t ≤ 1163
 sum-up k p x y z h e a b c q r = omega arith
 
-pub layout-length : (f : Fields) → InLimits f → length (layout f) ≤ 1163
+pub layout-length : (f : Fields) → InRanges f → length (layout f) ≤ 1163
 unfolding layout layoutRows
 layout-length f w =
     let k = f .head .k in

@@ -7,7 +7,7 @@ use lib.ListN.{length, getD, List·getD-eq-default}
 use lib.Pow.{pow-pos}
 use Rattle.code.specs.Checks.{count, checkMask}
 use Rattle.card.specs.Fields.{Stream, Fields, cardOf}
-use Rattle.card.specs.Layout.{AllMasksIn, AllStreamsIn, InLimits}
+use Rattle.card.specs.Layout.{AllMasksIn, AllStreamsIn, InRanges}
 use Rattle.card.proofs.Stores.{noStream, generator-at, count-at, check-at}
 
 -- ---- the masks at a place
@@ -37,7 +37,7 @@ module _ (p m : ℕ) where
 abbrev pub streamOf : Fields → ℕ → Stream
 streamOf f i = getD (f .streams) i noStream
 
-module _ (f : Fields) (w : InLimits f) where
+module _ (f : Fields) (w : InRanges f) where
   p-most : f .head .n - f .head .k ≤ 8
   p-most = let n = w .n-most in omega arith
 

@@ -13,6 +13,7 @@ use Rattle.card.specs.Reading.Field.{value}
 use Rattle.card.specs.Reading.Read.{got}
 use Rattle.card.specs.Layout.{mapOf, layoutMasks, layoutRows, layoutChecks, layoutStreams, layout, AllMasksIn, AllStreamsIn, Acceptable}
 use Rattle.code.specs.declared.Card.{Card}
+use Rattle.card.specs.declared.CardRule.{CardRule}
 use Rattle.card.proofs.Standing.{ChecksStand}
 use Rattle.card.proofs.Orthogonality.{AllStand, truly-standing}
 use Rattle.card.proofs.LayoutLaws.{map-lt}
@@ -65,26 +66,26 @@ module _ (bs : List ℕ) (c : Card) (m-most : c .m ≤ 31) where
       (r .0, streams-step i at (s .count) (s .checks) (k .0) streams (r .0) (b .0) q (r .1), r .2)
 
 -- ---- the whole card
-fields-step : (bs : List ℕ) (f : Fields) (at₀ at₁ at : ℕ) → readHead bs ≡ got (f .head) at₀
+fields-step : (rule : CardRule) (bs : List ℕ) (f : Fields) (at₀ at₁ at : ℕ) → readHead rule bs ≡ got (f .head) at₀
     → readGenerators bs at₀ (f .head .k) (f .head .n - f .head .k) (f .head .m) ≡ got (f .rows) at₁
-    → readStreams bs (codeOf (f .head) (f .rows)) (f .head .k) 0 at₁ ≡ got (f .streams) at → length bs ≤ at → readFields bs ≡ got f at
+    → readStreams bs (codeOf (f .head) (f .rows)) (f .head .k) 0 at₁ ≡ got (f .streams) at → length bs ≤ at → readFields rule bs ≡ got f at
 unfolding readFields
-fields-step bs f at₀ at₁ at e₁ e₂ e₃ h = rw (e₁, e₂, e₃, le-ltb at (length bs) h)
+fields-step rule bs f at₀ at₁ at e₁ e₂ e₃ h = rw (e₁, e₂, e₃, le-ltb at (length bs) h)
 
-pub fields-back : (bs : List ℕ) (f : Fields) → Acceptable bs f → (at : ℕ) × (readFields bs ≡ got f at)
+pub fields-back : (rule : CardRule) (bs : List ℕ) (f : Fields) → Acceptable rule bs f → (at : ℕ) × (readFields rule bs ≡ got f at)
 unfolding layout
-fields-back bs f a =
-    let w = a .limits in
+fields-back rule bs f a =
+    let w = a .limits .ranges in
     let p = f .head .n - f .head .k in
     let code = codeOf (f .head) (f .rows) in
-    let b = head-back bs f (layoutRows (f .rows) ++ layoutStreams (f .streams)) w (a .bytes-are) in
+    let b = head-back bs rule f (layoutRows (f .rows) ++ layoutStreams (f .streams)) (a .limits) (a .bytes-are) in
     let r = generators-back bs (b .0) p (f .head .m) (f .rows) (layoutStreams (f .streams)) (w .m-most) (w .rows-in) (b .2) in
     let s =
     streams-back bs code (w .m-most) 0 (f .streams) (r .0) [] (w .streams-in) (truly-standing f w (a .orthogonal))
     (r .2 ∙ sym (append-nil (layoutStreams (f .streams)))) in
     let z = sym (length-drop (s .0) bs) ∙ ap length (s .2) in (
       s .0,
-      fields-step bs f (b .0) (r .0) (s .0) (b .1)
+      fields-step rule bs f (b .0) (r .0) (s .0) (b .1)
           (subst (λ x. readGenerators bs (b .0) x p (f .head .m) ≡ got (f .rows) (r .0)) (w .row-count) (r .1))
           (subst (λ x. readStreams bs code x 0 (r .0) ≡ got (f .streams) (s .0)) (w .stream-count) (s .1))
           (omega arith),

@@ -12,10 +12,12 @@ use lib.Dec.{leb, ltb, eqb}
 use lib.Pow.{pow-pos}
 use borrow.Author.Tests.{lt-leb, le-leb, ltb-true, leb-true, eqb-true, eqb-false}
 use Rattle.bits.proofs.Cases.{picked}
-use Rattle.card.specs.Reading.{Field, byteField, kField, nField, mapField, maskField, wordAt, standingMask}
+use Rattle.card.specs.Reading.{Field, byteField, standingField, kField, nField, mapField, maskField, wordAt, standingMask}
 use Rattle.card.specs.Reading.Field.{value, bad}
 use Rattle.card.specs.Refusals.{numberOf}
 use Rattle.card.specs.Parts.{fieldOf}
+use Rattle.card.specs.declared.CardRule.{CardRule}
+use Rattle.card.specs.declared.CardRule.the-variants.{Former, Present}
 use Rattle.card.specs.declared.Refusal.{Refusal}
 use Rattle.card.specs.declared.fields.FieldRead.{FieldRead}
 use Rattle.card.specs.declared.fields.FieldRead.the-variants.{Value, Fault}
@@ -62,19 +64,33 @@ byte-is bs at low high number v e =
     (λ h. not-value (h .1))
     (picked (ltb at (length bs)) e)
 
-pub k-is : (bs : List ℕ) (stands v : ℕ) → kField bs stands ≡ value v → (1 ≤ v) × (v ≤ 4)
+-- a field that stands has the value that was read, ..
+pub standing-is : (rule : CardRule) (default at : ℕ) (f : Field) (v : ℕ) → standingField rule default at f ≡ value v → f ≡ value v
+unfolding standingField
+standing-is Former default at f v e = e
+standing-is Present default at (bad n o) v e = e
+standing-is Present default at (value x) v e = ⊎-elim (λ h. not-value (h .1)) (λ h. h .1) (picked (eqb x default) e)
+
+-- .. and under the present rule that is not its default
+pub standing-other : (default at : ℕ) (f : Field) (v : ℕ) → standingField Present default at f ≡ value v → v ≡ default → ⊥
+unfolding standingField
+standing-other default at (bad n o) v e q = not-value e
+standing-other default at (value x) v e q =
+    ⊎-elim (λ h. not-value (h .1)) (λ h. eqb-false x default (h .0) (value-same (h .1) ∙ q)) (picked (eqb x default) e)
+
+pub k-is : (rule : CardRule) (bs : List ℕ) (stands v : ℕ) → kField rule bs stands ≡ value v → (1 ≤ v) × (v ≤ 4)
 unfolding kField
-k-is bs stands v e =
+k-is rule bs stands v e =
     ⊎-elim
-    (λ h. let q = byte-is bs 2 1 4 2 v (h .1) in (q .least, q .most))
+    (λ h. let q = byte-is bs 2 1 4 2 v (standing-is rule 1 2 _ v (h .1)) in (q .least, q .most))
     (λ h. let q : 1 ≡ v = value-same (h .1) in omega arith)
     (picked (eqb stands 1) e)
 
-pub n-is : (bs : List ℕ) (at stands k v : ℕ) → nField bs at stands k ≡ value v → (k + 1 ≤ v) × (v ≤ 8)
+pub n-is : (rule : CardRule) (bs : List ℕ) (at stands k v : ℕ) → nField rule bs at stands k ≡ value v → (k + 1 ≤ v) × (v ≤ 8)
 unfolding nField
-n-is bs at stands k v e =
+n-is rule bs at stands k v e =
     ⊎-elim
-    (λ h. let q = byte-is bs at (k + 1) 8 3 v (h .1) in (q .least, q .most))
+    (λ h. let q = byte-is bs at (k + 1) 8 3 v (standing-is rule 2 at _ v (h .1)) in (q .least, q .most))
     (λ h.
     ⊎-elim
     (λ h₂. let q : 2 ≡ v = value-same (h₂ .1) in let l = leb-true (k + 1) 2 (h₂ .0) in omega arith)

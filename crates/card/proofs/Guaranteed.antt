@@ -8,11 +8,11 @@ use lib.ListN.{getD, List·getD-eq-default}
 use Rattle.code.specs.Checks.{count, checkMask}
 use Rattle.code.specs.Guarantees.{Guarantees}
 use Rattle.card.specs.Fields.{Stream, Fields, cardOf}
-use Rattle.card.specs.Layout.{InLimits, TrulyOrthogonal}
+use Rattle.card.specs.Layout.{InRanges, TrulyOrthogonal}
 use Rattle.card.proofs.Stores.{noStream, stream-in}
 use Rattle.card.proofs.CardTables.{mask-within, mask-beyond, streamOf, generator-stated, count-stated, mask-stated, stream-stated}
 
-module _ (f : Fields) (w : InLimits f) where
+module _ (f : Fields) (w : InRanges f) where
   abbrev p : ℕ
   p = f .head .n - f .head .k
 

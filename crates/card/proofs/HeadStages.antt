@@ -9,7 +9,8 @@ use Rattle.card.specs.Refusals.{numberOf}
 use Rattle.card.specs.Reading.{Field, mapRead, byteField, kField, nField, readHead}
 use Rattle.card.specs.Reading.Field.{value, bad}
 use Rattle.card.specs.Reading.Read.{got, fault}
-use Rattle.card.specs.Parts.{verdictOf, readBy, Opened, Sized, sizesOf}
+use Rattle.card.specs.Parts.{verdictOf, readBy, Opened, headFrom, sizesOf}
+use Rattle.card.specs.declared.CardRule.{CardRule}
 use Rattle.card.specs.declared.Refusal.{Refusal}
 use Rattle.card.specs.declared.Verdict.{Verdict}
 use Rattle.card.specs.declared.Verdict.the-variants.{Accepted}
@@ -26,33 +27,37 @@ pub read-whole : {A : Type 0} (x : A) (at : ℕ) {v : Verdict} → v ≡ Accepte
 read-whole x at e = ap (λ v. readBy v x at) e
 
 -- ---- the head, field by field
-module _ (bs : List ℕ) {n o : ℕ} where
-  pub map-faulty : byteField bs 0 0 3 5 ≡ bad n o → fault n o ≡ mapRead sizesOf (readHead bs)
-  unfolding readHead
-  map-faulty e = rw e
+module _ (rule : CardRule) (bs : List ℕ) where
+  module _ {n o : ℕ} where
+    pub map-faulty : byteField bs 0 0 3 5 ≡ bad n o → fault n o ≡ mapRead sizesOf (readHead rule bs)
+    unfolding readHead
+    map-faulty e = rw e
 
-  pub number-faulty : {map : ℕ} → byteField bs 0 0 3 5 ≡ value map → byteField bs 1 0 255 1 ≡ bad n o → fault n o ≡ mapRead sizesOf (readHead bs)
-  unfolding readHead
-  number-faulty e₁ e = rw (e₁, e)
+    pub number-faulty : {map : ℕ} → byteField bs 0 0 3 5 ≡ value map → byteField bs 1 0 255 1 ≡ bad n o → fault n o ≡ mapRead sizesOf (readHead rule bs)
+    unfolding readHead
+    number-faulty e₁ e = rw (e₁, e)
 
-module _ {bs : List ℕ} {map number : ℕ} (h : Opened bs map number) {n o : ℕ} where
-  pub k-faulty : kField bs (map % 2) ≡ bad n o → fault n o ≡ mapRead sizesOf (readHead bs)
-  unfolding readHead
-  k-faulty e = rw (h .map-read, h .number-read, e)
+  module _ {map number : ℕ} (h : Opened bs map number) where
+    pub k-faulty : {n o : ℕ} → kField rule bs (map % 2) ≡ bad n o → fault n o ≡ mapRead sizesOf (readHead rule bs)
+    unfolding readHead
+    k-faulty e = rw (h .map-read, h .number-read, e)
 
-  pub n-faulty : {k : ℕ} → kField bs (map % 2) ≡ value k → nField bs (2 + map % 2) (map / 2) k ≡ bad n o → fault n o ≡ mapRead sizesOf (readHead bs)
-  unfolding readHead
-  n-faulty e₁ e = rw (h .map-read, h .number-read, e₁, e)
+    module _ {k : ℕ} (k-read : kField rule bs (map % 2) ≡ value k) where
+      pub n-faulty : {n o : ℕ} → nField rule bs (2 + map % 2) (map / 2) k ≡ bad n o → fault n o ≡ mapRead sizesOf (readHead rule bs)
+      unfolding readHead
+      n-faulty e = rw (h .map-read, h .number-read, k-read, e)
 
-module _ {bs : List ℕ} {map number k n : ℕ} (h : Sized bs map number k n) where
-  pub m-faulty : {x o : ℕ} → byteField bs (2 + map % 2 + map / 2) 0 31 4 ≡ bad x o → fault x o ≡ mapRead sizesOf (readHead bs)
-  unfolding readHead
-  m-faulty e = rw (h .opened .map-read, h .opened .number-read, h .k-read, h .n-read, e)
+      pub goes-on : {n : ℕ} → nField rule bs (2 + map % 2) (map / 2) k ≡ value n → headFrom bs map number k n ≡ readHead rule bs
+      unfolding readHead
+      goes-on e = rw (h .map-read, h .number-read, k-read, e)
+
+module _ (bs : List ℕ) (map number k n : ℕ) where
+  pub m-faulty : {x o : ℕ} → byteField bs (2 + map % 2 + map / 2) 0 31 4 ≡ bad x o → fault x o ≡ mapRead sizesOf (headFrom bs map number k n)
+  m-faulty e = rw e
 
   pub head-whole : {m : ℕ} → byteField bs (2 + map % 2 + map / 2) 0 31 4 ≡ value m
-      → got (record { number = number; k = k; p = n - k; m = m }) (2 + map % 2 + map / 2 + 1) ≡ mapRead sizesOf (readHead bs)
-  unfolding readHead
-  head-whole e = rw (h .opened .map-read, h .opened .number-read, h .k-read, h .n-read, e)
+      → got (record { number = number; k = k; p = n - k; m = m }) (2 + map % 2 + map / 2 + 1) ≡ mapRead sizesOf (headFrom bs map number k n)
+  head-whole e = rw e
 
 -- ---- ranges
 -- the bits of a generator map

@@ -20,7 +20,8 @@ use Rattle.card.specs.Reading.Field.{value}
 use Rattle.card.specs.Reading.Read.{got}
 use Rattle.card.specs.Layout.{bytes4, stands, mapOf, layoutMasks, optional, layoutHead, allRows, layoutRows, layoutChecks, layoutStreams, layout}
 use Rattle.code.specs.declared.Card.{Card}
-use Rattle.card.proofs.FieldValues.{value-same, ByteIs, byte-is, mask-is, map-is}
+use Rattle.card.specs.declared.CardRule.{CardRule}
+use Rattle.card.proofs.FieldValues.{value-same, ByteIs, byte-is, standing-is, mask-is, map-is}
 use Rattle.card.proofs.ReadParts.{got-what, got-where, field-got, next-got, map-got, head-is}
 use Rattle.card.proofs.WholeReading.{check-is, fields-are}
 use Rattle.card.proofs.Limits.{masks-in}
@@ -48,17 +49,17 @@ module _ (bs : List ℕ) where
       (λ q. let e : at ≡ at + d = omega arith in rw (ne-eqb d 1 q) (drop-same e g))
       (same-or-not d 1)
 
-  k-byte : (d v : ℕ) → kField bs d ≡ value v → d ≡ 1 → ByteIs bs 2 1 4 v
+  k-byte : (rule : CardRule) (d v : ℕ) → kField rule bs d ≡ value v → d ≡ 1 → ByteIs bs 2 1 4 v
   unfolding kField
-  k-byte d v e q = byte-is bs 2 1 4 2 v (rw (eq-eqb d 1 q) at e)
+  k-byte rule d v e q = byte-is bs 2 1 4 2 v (standing-is rule 1 2 _ v (rw (eq-eqb d 1 q) at e))
 
-  n-byte : (at d k v : ℕ) → nField bs at d k ≡ value v → d ≡ 1 → ByteIs bs at (k + 1) 8 v
+  n-byte : (rule : CardRule) (at d k v : ℕ) → nField rule bs at d k ≡ value v → d ≡ 1 → ByteIs bs at (k + 1) 8 v
   unfolding nField
-  n-byte at d k v e q = byte-is bs at (k + 1) 8 3 v (rw (eq-eqb d 1 q) at e)
+  n-byte rule at d k v e q = byte-is bs at (k + 1) 8 3 v (standing-is rule 2 at _ v (rw (eq-eqb d 1 q) at e))
 
-  drop-head : (h : Head) (at : ℕ) {l : List ℕ} → readHead bs ≡ got h at → drop at bs ≡ l → bs ≡ layoutHead h ++ l
-  drop-head h at {l} e g =
-      let i = head-is bs h at e in
+  drop-head : (rule : CardRule) (h : Head) (at : ℕ) {l : List ℕ} → readHead rule bs ≡ got h at → drop at bs ≡ l → bs ≡ layoutHead h ++ l
+  drop-head rule h at {l} e g =
+      let i = head-is rule bs h at e in
       let d = i .kStands-is in
       let t = i .nStands-is in
       let most = i .map-byte .most in
@@ -66,8 +67,8 @@ module _ (bs : List ℕ) where
       let last = drop-byte (2 + i .map % 2 + i .map / 2) 0 31 (h .m) (i .m-byte) (drop-same (sym (i .at-is)) g) in
       let second =
       drop-optional (2 + i .map % 2) (i .map / 2) (h .n) (h .k + 1) 8 (omega arith)
-      (n-byte (2 + i .map % 2) (i .map / 2) (h .k) (h .n) (i .n-read)) last in
-      let first = drop-optional 2 (i .map % 2) (h .k) 1 4 (omega arith) (k-byte (i .map % 2) (h .k) (i .k-read)) second in
+      (n-byte rule (2 + i .map % 2) (i .map / 2) (h .k) (h .n) (i .n-read)) last in
+      let first = drop-optional 2 (i .map % 2) (h .k) 1 4 (omega arith) (k-byte rule (i .map % 2) (h .k) (i .k-read)) second in
       drop-byte 0 0 3 (i .map) (i .map-byte) (drop-byte 1 0 255 (h .number) (i .number-byte) first)
       ∙ rw (← d, ← t, q) (head-append h l)
 
@@ -184,11 +185,11 @@ module _ (bs : List ℕ) where
         (drop-byte at 1 16 (a .0) y m ∙ ap (λ y. a .0 ∷ y) (sym (append-assoc (layoutChecks (b .0)) (layoutStreams (d .0)) l)))
 
     -- ---- the whole card
-    pub read-laid : (f : Fields) (at : ℕ) → readFields bs ≡ got f at → bs ≡ layout f
+    pub read-laid : (rule : CardRule) (f : Fields) (at : ℕ) → readFields rule bs ≡ got f at → bs ≡ layout f
     unfolding layout
-    read-laid f at e =
-        let a = fields-are bs f at e in
-        drop-head (f .head) (a .at₀) (a .head-read)
+    read-laid rule f at e =
+        let a = fields-are rule bs f at e in
+        drop-head rule (f .head) (a .at₀) (a .head-read)
         (drop-generators (a .at₀) (f .head .k) (f .head .n - f .head .k) (f .head .m) (f .rows) (a .rows-read)
         (drop-streams (codeOf (f .head) (f .rows)) (f .head .k) 0 (a .at₁) (f .streams) (a .streams-read) (drop-of-length-le bs (a .at-end))
         ∙ append-nil (layoutStreams (f .streams))))

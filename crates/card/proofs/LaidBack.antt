@@ -15,10 +15,12 @@ use lib.Pow.{pow-mono}
 use borrow.Author.Tests.{eq-eqb, ne-eqb, lt-ltb, le-leb}
 use Rattle.bits.proofs.Cases.{le-or-lt, same-or-not}
 use Rattle.card.specs.Fields.{Fields}
-use Rattle.card.specs.Reading.{byteField, kField, nField, mapField, wordAt, maskField, standingMask, readHead, readMasks, readRows, readGenerators}
+use Rattle.card.specs.Reading.{Field, byteField, standingField, kField, nField, mapField, wordAt, maskField, standingMask, readHead, readMasks, readRows, readGenerators}
 use Rattle.card.specs.Reading.Field.{value, bad}
 use Rattle.card.specs.Reading.Read.{got}
-use Rattle.card.specs.Layout.{bytes4, stands, mapOf, layoutMasks, optional, layoutHead, allRows, layoutRows, MasksIn, AllMasksIn, InLimits}
+use Rattle.card.specs.Layout.{bytes4, stands, mapOf, layoutMasks, optional, layoutHead, allRows, layoutRows, MasksIn, AllMasksIn, InLimits, DefaultsIn}
+use Rattle.card.specs.declared.CardRule.{CardRule}
+use Rattle.card.specs.declared.CardRule.the-variants.{Former, Present}
 use Rattle.card.proofs.LayoutLaws.{map-lt, map-digits, map-parts, masks-append, rows-long, head-append}
 use Rattle.card.proofs.Limits.{top-of-within}
 use Rattle.card.proofs.Laid.{drop-same}
@@ -42,6 +44,24 @@ word-whole v h =
     let e : v / 65536 ≡ v / 16777216 * 256 + v / 65536 % 256 = omega arith in
     let f : v / 256 ≡ v / 65536 * 256 + v / 256 % 256 = omega arith in
     omega arith
+
+-- ---- fields that stand
+
+-- the rule lets a field with this value stand
+abbrev MayStand : CardRule → ℕ → ℕ → Type 0
+MayStand Former default v = Unit {0}
+MayStand Present default v = v ≡ default → ⊥
+
+may-stand : (rule : CardRule) (f : Fields) → DefaultsIn rule f
+    → (f .head .kStands ≡ 1 → MayStand rule 1 (f .head .k)) × (f .head .nStands ≡ 1 → MayStand rule 2 (f .head .n))
+may-stand Former f d = (λ z. tt, λ z. tt)
+may-stand Present f d =
+    (λ z q. let y = d .k-left-out q in omega arith, λ z q. let y = d .n-left-out q in omega arith)
+
+let-stand : (rule : CardRule) (default at v : ℕ) → MayStand rule default v → {g : Field} → g ≡ value v → standingField rule default at g ≡ value v
+unfolding standingField
+let-stand Former default at v m e = e
+let-stand Present default at v m e = rw e (rw (ne-eqb v default m))
 
 module _ (bs : List ℕ) where
   -- ---- fields
@@ -167,56 +187,62 @@ module _ (bs : List ℕ) where
   optional-back at d v l h e =
       ⊎-elim (λ q. inr (q, rw (eq-eqb d 1 q) at e)) (λ q. inl (omega arith, rw (ne-eqb d 1 q) at e)) (same-or-not d 1)
 
-  k-back : (d k : ℕ) (l : List ℕ) → d ≤ 1 → 1 ≤ k → k ≤ 4 → (d ≡ 0 → k ≡ 1) → drop 2 bs ≡ optional d k ++ l
-      → (kField bs d ≡ value k) × (drop (2 + d) bs ≡ l)
-  unfolding kField
-  k-back d k l h least most default e =
-      ⊎-elim
-      (λ w.
-      let z = w .0 in
-      let y : 2 + d ≡ 2 = omega arith in
-      (rw (ne-eqb d 1 (omega arith)) (ap value (sym (default z))), drop-same bs y (w .1)))
-      (λ w.
-      let z = w .0 in
-      let y : 2 + d ≡ 2 + 1 = omega arith in
-      let r = byte-back 2 1 4 2 k l (w .1) least most in
-      (rw (eq-eqb d 1 z) (r .0), drop-same bs y (r .1)))
-      (optional-back 2 d k l h e)
+  module _ (rule : CardRule) where
+    -- a field that stands has its value, unless the rule refuses that
+    k-back : (d k : ℕ) (l : List ℕ) → d ≤ 1 → 1 ≤ k → k ≤ 4 → (d ≡ 0 → k ≡ 1) → (d ≡ 1 → MayStand rule 1 k) → drop 2 bs ≡ optional d k ++ l
+        → (kField rule bs d ≡ value k) × (drop (2 + d) bs ≡ l)
+    unfolding kField
+    k-back d k l h least most default may e =
+        ⊎-elim
+        (λ w.
+        let z = w .0 in
+        let y : 2 + d ≡ 2 = omega arith in
+        (rw (ne-eqb d 1 (omega arith)) (ap value (sym (default z))), drop-same bs y (w .1)))
+        (λ w.
+        let z = w .0 in
+        let y : 2 + d ≡ 2 + 1 = omega arith in
+        let r = byte-back 2 1 4 2 k l (w .1) least most in
+        (rw (eq-eqb d 1 z) (let-stand rule 1 2 k (may z) (r .0)), drop-same bs y (r .1)))
+        (optional-back 2 d k l h e)
 
-  n-back : (at d k n : ℕ) (l : List ℕ) → d ≤ 1 → k + 1 ≤ n → n ≤ 8 → (d ≡ 0 → n ≡ 2) → drop at bs ≡ optional d n ++ l
-      → (nField bs at d k ≡ value n) × (drop (at + d) bs ≡ l)
-  unfolding nField
-  n-back at d k n l h least most default e =
-      ⊎-elim
-      (λ w.
-      let z = w .0 in
-      let q = default z in
-      let y : at + d ≡ at = omega arith in
-      (rw (ne-eqb d 1 (omega arith)) (rw (le-leb (k + 1) 2 (omega arith)) (ap value (sym q))), drop-same bs y (w .1)))
-      (λ w.
-      let z = w .0 in
-      let y : at + d ≡ at + 1 = omega arith in
-      let r = byte-back at (k + 1) 8 3 n l (w .1) least most in
-      (rw (eq-eqb d 1 z) (r .0), drop-same bs y (r .1)))
-      (optional-back at d n l h e)
+    n-back : (at d k n : ℕ) (l : List ℕ) → d ≤ 1 → k + 1 ≤ n → n ≤ 8 → (d ≡ 0 → n ≡ 2) → (d ≡ 1 → MayStand rule 2 n) → drop at bs ≡ optional d n ++ l
+        → (nField rule bs at d k ≡ value n) × (drop (at + d) bs ≡ l)
+    unfolding nField
+    n-back at d k n l h least most default may e =
+        ⊎-elim
+        (λ w.
+        let z = w .0 in
+        let q = default z in
+        let y : at + d ≡ at = omega arith in
+        (rw (ne-eqb d 1 (omega arith)) (rw (le-leb (k + 1) 2 (omega arith)) (ap value (sym q))), drop-same bs y (w .1)))
+        (λ w.
+        let z = w .0 in
+        let y : at + d ≡ at + 1 = omega arith in
+        let r = byte-back at (k + 1) 8 3 n l (w .1) least most in
+        (rw (eq-eqb d 1 z) (let-stand rule 2 at n (may z) (r .0)), drop-same bs y (r .1)))
+        (optional-back at d n l h e)
 
-  head-step : (map number k n m d t : ℕ) → map % 2 ≡ d → map / 2 ≡ t → byteField bs 0 0 3 5 ≡ value map → byteField bs 1 0 255 1 ≡ value number
-      → kField bs d ≡ value k → nField bs (2 + d) t k ≡ value n → byteField bs (2 + d + t) 0 31 4 ≡ value m
-      → readHead bs ≡ got (record { kStands = d; nStands = t; number = number; k = k; n = n; m = m }) (2 + d + t + 1)
-  unfolding readHead
-  head-step map number k n m d t q q₁ e₁ e₂ e₃ e₄ e₅ = rw (e₁, e₂, q, e₃, q₁, e₄, e₅)
+    head-step : (map number k n m d t : ℕ) → map % 2 ≡ d → map / 2 ≡ t → byteField bs 0 0 3 5 ≡ value map → byteField bs 1 0 255 1 ≡ value number
+        → kField rule bs d ≡ value k → nField rule bs (2 + d) t k ≡ value n → byteField bs (2 + d + t) 0 31 4 ≡ value m
+        → readHead rule bs ≡ got (record { kStands = d; nStands = t; number = number; k = k; n = n; m = m }) (2 + d + t + 1)
+    unfolding readHead
+    head-step map number k n m d t q q₁ e₁ e₂ e₃ e₄ e₅ = rw (e₁, e₂, q, e₃, q₁, e₄, e₅)
 
-  pub head-back : (f : Fields) (l : List ℕ) → InLimits f → bs ≡ layoutHead (f .head) ++ l → (at : ℕ) × (readHead bs ≡ got (f .head) at) × (drop at bs ≡ l)
-  head-back f l w e =
-      let k₁ = w .kStands-bit in
-      let n₁ = w .nStands-bit in
-      let a = byte-back 0 0 3 5 (f .head .kStands + 2 * f .head .nStands) _ (e ∙ sym (head-append (f .head) l)) (omega arith) (omega arith) in
-      let b = byte-back 1 0 255 1 (f .head .number) _ (a .1) (omega arith) (w .number-most) in
-      let c = k-back (f .head .kStands) (f .head .k) _ (w .kStands-bit) (w .k-least) (w .k-most) (w .k-default) (b .1) in
-      let d = n-back (2 + f .head .kStands) (f .head .nStands) (f .head .k) (f .head .n) _ (w .nStands-bit) (w .n-least) (w .n-most) (w .n-default) (c .1) in
-      let g = byte-back (2 + f .head .kStands + f .head .nStands) 0 31 4 (f .head .m) l (d .1) (omega arith) (w .m-most) in (
-        2 + f .head .kStands + f .head .nStands + 1,
-        head-step (f .head .kStands + 2 * f .head .nStands) (f .head .number) (f .head .k) (f .head .n) (f .head .m) (f .head .kStands) (f .head .nStands)
-            (omega arith) (omega arith) (a .0) (b .0) (c .0) (d .0) (g .0),
-        g .1,
-      )
+    pub head-back : (f : Fields) (l : List ℕ) → InLimits rule f → bs ≡ layoutHead (f .head) ++ l
+        → (at : ℕ) × (readHead rule bs ≡ got (f .head) at) × (drop at bs ≡ l)
+    head-back f l limits e =
+        let w = limits .ranges in
+        let k₁ = w .kStands-bit in
+        let n₁ = w .nStands-bit in
+        let a = byte-back 0 0 3 5 (f .head .kStands + 2 * f .head .nStands) _ (e ∙ sym (head-append (f .head) l)) (omega arith) (omega arith) in
+        let b = byte-back 1 0 255 1 (f .head .number) _ (a .1) (omega arith) (w .number-most) in
+        let may = may-stand rule f (limits .defaults) in
+        let c = k-back (f .head .kStands) (f .head .k) _ (w .kStands-bit) (w .k-least) (w .k-most) (w .k-default) (may .0) (b .1) in
+        let d =
+        n-back (2 + f .head .kStands) (f .head .nStands) (f .head .k) (f .head .n) _ (w .nStands-bit) (w .n-least) (w .n-most) (w .n-default) (may .1) (c .1) in
+        let g = byte-back (2 + f .head .kStands + f .head .nStands) 0 31 4 (f .head .m) l (d .1) (omega arith) (w .m-most) in (
+          2 + f .head .kStands + f .head .nStands + 1,
+          head-step (f .head .kStands + 2 * f .head .nStands) (f .head .number) (f .head .k) (f .head .n) (f .head .m) (f .head .kStands) (f .head .nStands)
+              (omega arith) (omega arith) (a .0) (b .0) (c .0) (d .0) (g .0),
+          g .1,
+        )

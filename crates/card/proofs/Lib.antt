@@ -22,4 +22,6 @@ pub mod LaidBack
 pub mod ChecksBack
 pub mod CardLength
 pub mod Guaranteed
+pub mod FieldsBack
+pub mod Defaults
 pub mod Acceptance

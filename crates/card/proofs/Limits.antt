@@ -7,17 +7,19 @@ use native.Mathlib.Nat.{div-lt-iff-lt-mul, pow-succ'}
 use native.Mathlib.Numerals.{add-one}
 use native.Mathlib.Omega.{arith}
 use lib.ListN.{length, getD}
-use lib.Dec.{leb}
+use lib.Dec.{leb, eqb}
 use lib.Pow.{pow-pos}
-use borrow.Author.Tests.{ne-eqb}
+use borrow.Author.Tests.{ne-eqb, eqb-false}
 use Rattle.bits.proofs.Cases.{picked}
 use Rattle.card.specs.Fields.{Stream, Fields, codeOf}
 use Rattle.card.specs.Reading.{kField, nField, mapField, readMasks, readRows, readGenerators, readChecks, readStreams, readFields}
 use Rattle.card.specs.Reading.Field.{value, bad}
 use Rattle.card.specs.Reading.Read.{got}
-use Rattle.card.specs.Layout.{MasksIn, AllMasksIn, AllStreamsIn, InLimits}
+use Rattle.card.specs.Layout.{MasksIn, AllMasksIn, AllStreamsIn, InRanges, DefaultsIn, InLimits}
 use Rattle.code.specs.declared.Card.{Card}
-use Rattle.card.proofs.FieldValues.{not-value, value-same, byte-is, k-is, n-is, standing-within}
+use Rattle.card.specs.declared.CardRule.{CardRule}
+use Rattle.card.specs.declared.CardRule.the-variants.{Former, Present}
+use Rattle.card.proofs.FieldValues.{not-value, value-same, byte-is, standing-other, k-is, n-is, standing-within}
 use Rattle.card.proofs.ReadParts.{got-what, field-got, next-got, map-got, head-is}
 use Rattle.card.proofs.Standing.{ChecksStand}
 use Rattle.card.proofs.Orthogonality.{AllStand}
@@ -97,26 +99,39 @@ module _ (bs : List ℕ) (c : Card) where
       (ap suc (r .0), (record { many = k .0; J-least = n .least; J-most = n .most; masks = k .1 }, r .1), (k .2, r .2))
 
 -- ---- the head
-k-default : (bs : List ℕ) (d v : ℕ) → kField bs d ≡ value v → d ≡ 0 → v ≡ 1
-unfolding kField
-k-default bs d v e q = sym (value-same (rw (ne-eqb d 1 (omega arith)) at e))
+module _ (rule : CardRule) (bs : List ℕ) where
+  k-default : (d v : ℕ) → kField rule bs d ≡ value v → d ≡ 0 → v ≡ 1
+  unfolding kField
+  k-default d v e q = sym (value-same (rw (ne-eqb d 1 (omega arith)) at e))
 
-n-default : (bs : List ℕ) (at d k v : ℕ) → nField bs at d k ≡ value v → d ≡ 0 → v ≡ 2
-unfolding nField
-n-default bs at d k v e q =
-    ⊎-elim
-    (λ w. sym (value-same (w .1)))
-    (λ w. not-value (w .1))
-    (picked (leb (k + 1) 2) {x = value 2} {y = bad 3 0} (rw (ne-eqb d 1 (omega arith)) at e))
+  n-default : (at d k v : ℕ) → nField rule bs at d k ≡ value v → d ≡ 0 → v ≡ 2
+  unfolding nField
+  n-default at d k v e q =
+      ⊎-elim
+      (λ w. sym (value-same (w .1)))
+      (λ w. not-value (w .1))
+      (picked (leb (k + 1) 2) {x = value 2} {y = bad 3 0} (rw (ne-eqb d 1 (omega arith)) at e))
+
+-- a field with its default does not stand
+module _ (bs : List ℕ) where
+  k-plain : (d v : ℕ) → d ≤ 1 → kField Present bs d ≡ value v → v ≡ 1 → d ≡ 0
+  unfolding kField
+  k-plain d v h e q =
+      ⊎-elim (λ w. absurd (standing-other 1 2 _ v (w .1) q)) (λ w. let z = eqb-false d 1 (w .0) in omega arith) (picked (eqb d 1) e)
+
+  n-plain : (at d k v : ℕ) → d ≤ 1 → nField Present bs at d k ≡ value v → v ≡ 2 → d ≡ 0
+  unfolding nField
+  n-plain at d k v h e q =
+      ⊎-elim (λ w. absurd (standing-other 2 at _ v (w .1) q)) (λ w. let z = eqb-false d 1 (w .0) in omega arith) (picked (eqb d 1) e)
 
 -- ---- the whole card
-module _ (bs : List ℕ) (f : Fields) (at : ℕ) (e : readFields bs ≡ got f at) where
-  pub read-in : InLimits f
-  read-in =
-      let a = fields-are bs f at e in
-      let h = head-is bs (f .head) (a .at₀) (a .head-read) in
-      let k = k-is bs _ _ (h .k-read) in
-      let n = n-is bs _ _ _ _ (h .n-read) in
+module _ (rule : CardRule) (bs : List ℕ) (f : Fields) (at : ℕ) (e : readFields rule bs ≡ got f at) where
+  ranges-in : InRanges f
+  ranges-in =
+      let a = fields-are rule bs f at e in
+      let h = head-is rule bs (f .head) (a .at₀) (a .head-read) in
+      let k = k-is rule bs _ _ (h .k-read) in
+      let n = n-is rule bs _ _ _ _ (h .n-read) in
       let d = h .kStands-is in
       let t = h .nStands-is in
       let most = h .map-byte .most in
@@ -128,10 +143,10 @@ module _ (bs : List ℕ) (f : Fields) (at : ℕ) (e : readFields bs ≡ got f at
         number-most = h .number-byte .most;
         k-least = k .0;
         k-most = k .1;
-        k-default = λ q. k-default bs _ (f .head .k) (h .k-read) (sym d ∙ q);
+        k-default = λ q. k-default rule bs _ (f .head .k) (h .k-read) (sym d ∙ q);
         n-least = n .0;
         n-most = n .1;
-        n-default = λ q. n-default bs _ _ _ (f .head .n) (h .n-read) (sym t ∙ q);
+        n-default = λ q. n-default rule bs _ _ _ (f .head .n) (h .n-read) (sym t ∙ q);
         m-most = h .m-byte .most;
         row-count = r .0;
         rows-in = r .1;
@@ -141,5 +156,19 @@ module _ (bs : List ℕ) (f : Fields) (at : ℕ) (e : readFields bs ≡ got f at
 
   pub read-standing : AllStand (codeOf (f .head) (f .rows)) 0 (f .streams)
   read-standing =
-      let a = fields-are bs f at e in
+      let a = fields-are rule bs f at e in
       streams-in bs (codeOf (f .head) (f .rows)) (f .head .k) 0 (a .at₁) (f .streams) (a .streams-read) .2
+
+defaults-in : (rule : CardRule) (bs : List ℕ) (f : Fields) (at : ℕ) → readFields rule bs ≡ got f at → DefaultsIn rule f
+defaults-in Former bs f at e = tt
+defaults-in Present bs f at e =
+    let a = fields-are Present bs f at e in
+    let h = head-is Present bs (f .head) (a .at₀) (a .head-read) in
+    let most = h .map-byte .most in
+    record {
+      k-left-out = λ q. h .kStands-is ∙ k-plain bs _ (f .head .k) (omega arith) (h .k-read) q;
+      n-left-out = λ q. h .nStands-is ∙ n-plain bs _ _ _ (f .head .n) (omega arith) (h .n-read) q;
+    }
+
+pub read-in : (rule : CardRule) (bs : List ℕ) (f : Fields) (at : ℕ) → readFields rule bs ≡ got f at → InLimits rule f
+read-in rule bs f at e = record { ranges = ranges-in rule bs f at e; defaults = defaults-in rule bs f at e }

@@ -8,7 +8,7 @@ use Rattle.code.specs.Code.{generator}
 use Rattle.code.specs.Checks.{count, checkMask, touchesInfo, touchesBy, touches}
 use Rattle.card.specs.Fields.{Stream, Fields, codeOf, cardOf}
 use Rattle.card.specs.Reading.{maskAt}
-use Rattle.card.specs.Layout.{InLimits, TrulyOrthogonal}
+use Rattle.card.specs.Layout.{InRanges, TrulyOrthogonal}
 use Rattle.code.specs.declared.Card.{Card}
 use Rattle.code.proofs.Touches.{touches-same}
 use Rattle.card.proofs.Stores.{noStream}
@@ -34,7 +34,7 @@ module _ (c : Card) where
   all-stand i (s ∷ streams) a = (a 0 i (omega arith) (omega arith), all-stand (i + 1) streams (λ i₁ n h e. a (suc i₁) n (omega arith) (omega arith)))
 
 -- ---- the card of fields within the limits
-module _ (f : Fields) (w : InLimits f) where
+module _ (f : Fields) (w : InRanges f) where
   -- the masks of the checks of stream i
   abbrev checksOf : ℕ → List (List ℕ)
   checksOf i = streamOf f i .checks

@@ -8,6 +8,7 @@ use Rattle.card.specs.Fields.{Head}
 use Rattle.card.specs.Reading.{Field, Read, next, mapRead, field, kField, nField, readHead, readMasks, readRows, readGenerators}
 use Rattle.card.specs.Reading.Field.{value, bad}
 use Rattle.card.specs.Reading.Read.{got, fault}
+use Rattle.card.specs.declared.CardRule.{CardRule}
 use Rattle.card.proofs.FieldValues.{ByteIs, byte-is, k-is, n-is, map-is, standing-inside}
 
 pub not-got : {X A : Type 0} {n o at : ℕ} {x : X} → fault n o ≡ got x at → A
@@ -37,20 +38,20 @@ map-faulted g (got x at) e = not-got (sym e)
 map-faulted g (fault n o) e = cc
 
 -- ---- the head
-pub record HeadIs (bs : List ℕ) (h : Head) (at : ℕ) : Type 0 where
+pub record HeadIs (rule : CardRule) (bs : List ℕ) (h : Head) (at : ℕ) : Type 0 where
   pub map : ℕ
   pub map-byte : ByteIs bs 0 0 3 map
   pub number-byte : ByteIs bs 1 0 255 (h .number)
-  pub k-read : kField bs (map % 2) ≡ value (h .k)
-  pub n-read : nField bs (2 + map % 2) (map / 2) (h .k) ≡ value (h .n)
+  pub k-read : kField rule bs (map % 2) ≡ value (h .k)
+  pub n-read : nField rule bs (2 + map % 2) (map / 2) (h .k) ≡ value (h .n)
   pub m-byte : ByteIs bs (2 + map % 2 + map / 2) 0 31 (h .m)
   pub kStands-is : h .kStands ≡ map % 2
   pub nStands-is : h .nStands ≡ map / 2
   pub at-is : at ≡ 2 + map % 2 + map / 2 + 1
 
-pub head-is : (bs : List ℕ) (h : Head) (at : ℕ) → readHead bs ≡ got h at → HeadIs bs h at
+pub head-is : (rule : CardRule) (bs : List ℕ) (h : Head) (at : ℕ) → readHead rule bs ≡ got h at → HeadIs rule bs h at
 unfolding readHead
-head-is bs h at e =
+head-is rule bs h at e =
     let a = field-got _ _ e in
     let b = field-got _ _ (a .2) in
     let c = field-got _ _ (b .2) in
@@ -62,7 +63,7 @@ head-is bs h at e =
       map-byte = byte-is bs 0 0 3 5 (a .0) (a .1);
       number-byte = byte-is bs 1 0 255 1 (h .number) (b .1 ∙ ap (λ x. value (x .number)) w);
       k-read = c .1 ∙ ap (λ x. value (x .k)) w;
-      n-read = ap (λ k. nField bs (2 + a .0 % 2) (a .0 / 2) k) (sym (ap (λ (x : Head). x .k) w)) ∙ (d .1 ∙ ap (λ x. value (x .n)) w);
+      n-read = ap (λ k. nField rule bs (2 + a .0 % 2) (a .0 / 2) k) (sym (ap (λ (x : Head). x .k) w)) ∙ (d .1 ∙ ap (λ x. value (x .n)) w);
       m-byte = byte-is bs (2 + a .0 % 2 + a .0 / 2) 0 31 4 (h .m) (f .1 ∙ ap (λ x. value (x .m)) w);
       kStands-is = sym (ap (λ (x : Head). x .kStands) w);
       nStands-is = sym (ap (λ (x : Head). x .nStands) w);
@@ -77,11 +78,11 @@ pub record HeadIn (bs : List ℕ) (h : Head) (at : ℕ) : Type 0 where
   pub m-most : h .m ≤ 31
   pub inside : at ≤ length bs
 
-pub head-in : (bs : List ℕ) (h : Head) (at : ℕ) → readHead bs ≡ got h at → HeadIn bs h at
-head-in bs h at e =
-    let i = head-is bs h at e in
-    let k = k-is bs _ _ (i .k-read) in
-    let n = n-is bs _ _ _ _ (i .n-read) in
+pub head-in : (rule : CardRule) (bs : List ℕ) (h : Head) (at : ℕ) → readHead rule bs ≡ got h at → HeadIn bs h at
+head-in rule bs h at e =
+    let i = head-is rule bs h at e in
+    let k = k-is rule bs _ _ (i .k-read) in
+    let n = n-is rule bs _ _ _ _ (i .n-read) in
     record {
       k-least = k .0;
       k-most = k .1;

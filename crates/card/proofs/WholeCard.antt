@@ -1,4 +1,4 @@
--- The parts of a card put together: what `read_card` gives is what the definition reads.
+-- The parts of a card put together: what `read_under` gives is what the definition reads.
 use Prim.Native.Nat.{ℕ, _+_, _-_, _≤_, _<_}
 use mathlib.Core.Path.{_≡_, sym, ap, _∙_}
 use mathlib.Core.List.{List}
@@ -9,11 +9,12 @@ use Rattle.card.specs.Refusals.{numberOf}
 use Rattle.card.specs.Outcome.{outcomeOf, published}
 use Rattle.card.specs.Outcome.Outcome.{accepted}
 use Rattle.card.specs.Fields.{Head, Stream, emptyCard, storeRows, codeOf, withChecks, cardOf}
-use Rattle.card.specs.Reading.{Read, mapRead, readHead, readGenerators, readStreams, readFields, refusedCard, readCard}
+use Rattle.card.specs.Reading.{Read, mapRead, readHead, readGenerators, readStreams, readFields, refusedCard, readUnder}
 use Rattle.card.specs.Reading.Read.{got, fault}
 use Rattle.card.specs.Parts.{readBy, sizesOf, codeBy, Tables, tablesWith}
 use Rattle.code.specs.declared.Card.{Card}
 use Rattle.card.specs.declared.CardRead.{CardRead}
+use Rattle.card.specs.declared.CardRule.{CardRule}
 use Rattle.card.specs.declared.Refusal.{Refusal}
 use Rattle.card.specs.declared.Verdict.{Verdict}
 use Rattle.card.specs.declared.Verdict.the-variants.{Accepted, Refused}
@@ -33,38 +34,38 @@ pub refused-read : {r : CardRead} {v : Verdict} {x : Refusal} {o : ℕ} → r �
     → published r ≡ refusedCard (numberOf x) o
 refused-read e q = ap published e ∙ ap (λ (v : Verdict). record { outcome = outcomeOf v; card = emptyCard }) q
 
-module _ (bs : List ℕ) where
-  pub head-refused : {n o : ℕ} → readHead bs ≡ fault n o → refusedCard n o ≡ readCard bs
-  unfolding readCard readFields
+module _ (rule : CardRule) (bs : List ℕ) where
+  pub head-refused : {n o : ℕ} → readHead rule bs ≡ fault n o → refusedCard n o ≡ readUnder rule bs
+  unfolding readUnder readFields
   head-refused e = rw e
 
-  module _ {h : Head} {at : ℕ} (e₁ : readHead bs ≡ got h at) where
-    pub generators-refused : {n o : ℕ} → readGenerators bs at (h .k) (h .n - h .k) (h .m) ≡ fault n o → refusedCard n o ≡ readCard bs
-    unfolding readCard readFields
+  module _ {h : Head} {at : ℕ} (e₁ : readHead rule bs ≡ got h at) where
+    pub generators-refused : {n o : ℕ} → readGenerators bs at (h .k) (h .n - h .k) (h .m) ≡ fault n o → refusedCard n o ≡ readUnder rule bs
+    unfolding readUnder readFields
     generators-refused e = rw (e₁, e)
 
     module _ {rows : List (List ℕ)} {at₁ : ℕ} (e₂ : readGenerators bs at (h .k) (h .n - h .k) (h .m) ≡ got rows at₁) where
-      pub checks-refused : {n o : ℕ} → readStreams bs (codeOf h rows) (h .k) 0 at₁ ≡ fault n o → refusedCard n o ≡ readCard bs
-      unfolding readCard readFields
+      pub checks-refused : {n o : ℕ} → readStreams bs (codeOf h rows) (h .k) 0 at₁ ≡ fault n o → refusedCard n o ≡ readUnder rule bs
+      unfolding readUnder readFields
       checks-refused e = rw (e₁, e₂, e)
 
       module _ {streams : List Stream} {at₂ : ℕ} (e₃ : readStreams bs (codeOf h rows) (h .k) 0 at₁ ≡ got streams at₂) where
-        pub bytes-after : at₂ < length bs → refusedCard 10 at₂ ≡ readCard bs
-        unfolding readCard readFields
+        pub bytes-after : at₂ < length bs → refusedCard 10 at₂ ≡ readUnder rule bs
+        unfolding readUnder readFields
         bytes-after l = rw (e₁, e₂, e₃, lt-ltb at₂ (length bs) l)
 
-        pub whole-card : length bs ≤ at₂ → record { outcome = accepted; card = withChecks (codeOf h rows) streams } ≡ readCard bs
-        unfolding readCard readFields cardOf
+        pub whole-card : length bs ≤ at₂ → record { outcome = accepted; card = withChecks (codeOf h rows) streams } ≡ readUnder rule bs
+        unfolding readUnder readFields cardOf
         whole-card l = rw (e₁, e₂, e₃, le-ltb at₂ (length bs) l)
 
--- ---- as `read_card` has them
-module _ (bs : List ℕ) (v₁ : Verdict) (z : Sizes) (at₁ : ℕ) (e₁ : readBy v₁ z at₁ ≡ mapRead sizesOf (readHead bs)) where
-  pub head-stop : {x : Refusal} {o : ℕ} → v₁ ≡ Refused x o → refusedCard (numberOf x) o ≡ readCard bs
-  head-stop q = head-refused bs (part-fault sizesOf (readHead bs) v₁ z at₁ e₁ q)
+-- ---- as `read_under` has them
+module _ (rule : CardRule) (bs : List ℕ) (v₁ : Verdict) (z : Sizes) (at₁ : ℕ) (e₁ : readBy v₁ z at₁ ≡ mapRead sizesOf (readHead rule bs)) where
+  pub head-stop : {x : Refusal} {o : ℕ} → v₁ ≡ Refused x o → refusedCard (numberOf x) o ≡ readUnder rule bs
+  head-stop q = head-refused rule bs (part-fault sizesOf (readHead rule bs) v₁ z at₁ e₁ q)
 
   module _ (a₁ : v₁ ≡ Accepted) where
-    head-got : (h : Head) × (readHead bs ≡ got h at₁) × (sizesOf h ≡ z)
-    head-got = part-got sizesOf (readHead bs) v₁ z at₁ e₁ a₁
+    head-got : (h : Head) × (readHead rule bs ≡ got h at₁) × (sizesOf h ≡ z)
+    head-got = part-got sizesOf (readHead rule bs) v₁ z at₁ e₁ a₁
 
     -- what the head states lies within the limits
     pub record Ranges : Type 0 where
@@ -77,7 +78,7 @@ module _ (bs : List ℕ) (v₁ : Verdict) (z : Sizes) (at₁ : ℕ) (e₁ : read
     pub head-ranges : Ranges
     head-ranges =
         let h = head-got .0 in
-        let i = head-in bs h at₁ (head-got .1) in
+        let i = head-in rule bs h at₁ (head-got .1) in
         let k = ap (λ (x : Sizes). x .k) (head-got .2) in
         let p = ap (λ (x : Sizes). x .p) (head-got .2) in
         let m = ap (λ (x : Sizes). x .m) (head-got .2) in
@@ -88,9 +89,9 @@ module _ (bs : List ℕ) (v₁ : Verdict) (z : Sizes) (at₁ : ℕ) (e₁ : read
       abbrev rowsRead : Sizes → Read (List (List ℕ))
       rowsRead z = readGenerators bs at₁ (z .k) (z .p) (z .m)
 
-      pub generators-stop : {x : Refusal} {o : ℕ} → v₂ ≡ Refused x o → refusedCard (numberOf x) o ≡ readCard bs
+      pub generators-stop : {x : Refusal} {o : ℕ} → v₂ ≡ Refused x o → refusedCard (numberOf x) o ≡ readUnder rule bs
       generators-stop q =
-          generators-refused bs (head-got .1)
+          generators-refused rule bs (head-got .1)
           (ap rowsRead (head-got .2) ∙ part-fault (λ rows. storeRows 0 rows (replicate 32 0)) (rowsRead z) v₂ generators at₂ e₂ q)
 
       module _ (a₂ : v₂ ≡ Accepted) where
@@ -112,9 +113,9 @@ module _ (bs : List ℕ) (v₁ : Verdict) (z : Sizes) (at₁ : ℕ) (e₁ : read
           abbrev streamsRead : Card → Read (List Stream)
           streamsRead c = readStreams bs c (c .k) 0 at₂
 
-          pub checks-stop : {x : Refusal} {o : ℕ} → v₃ ≡ Refused x o → refusedCard (numberOf x) o ≡ readCard bs
+          pub checks-stop : {x : Refusal} {o : ℕ} → v₃ ≡ Refused x o → refusedCard (numberOf x) o ≡ readUnder rule bs
           checks-stop q =
-              checks-refused bs (head-got .1) rows-read
+              checks-refused rule bs (head-got .1) rows-read
               (ap streamsRead (sym code-is) ∙ part-fault (tablesWith 0 (replicate 4 0) (replicate 512 0)) (streamsRead (codeBy z generators)) v₃ tables at₃ e₃ q)
 
           module _ (a₃ : v₃ ≡ Accepted) where
@@ -124,14 +125,14 @@ module _ (bs : List ℕ) (v₁ : Verdict) (z : Sizes) (at₁ : ℕ) (e₁ : read
             streams-read : streamsRead (codeOf (head-got .0) (rows-got .0)) ≡ got (streams-got .0) at₃
             streams-read = ap streamsRead (sym code-is) ∙ streams-got .1
 
-            pub after-stop : at₃ < length bs → refusedCard 10 at₃ ≡ readCard bs
-            after-stop l = bytes-after bs (head-got .1) rows-read streams-read l
+            pub after-stop : at₃ < length bs → refusedCard 10 at₃ ≡ readUnder rule bs
+            after-stop l = bytes-after rule bs (head-got .1) rows-read streams-read l
 
             pub accepted-card : length bs ≤ at₃ →
                 record {
                   outcome = accepted;
                   card = record { number = z .number; k = z .k; p = z .p; m = z .m; generators = generators; counts = tables .counts; checks = tables .checks };
-                } ≡ readCard bs
+                } ≡ readUnder rule bs
             accepted-card l =
                 ap (λ (t : Tables).
                 record {
@@ -139,4 +140,4 @@ module _ (bs : List ℕ) (v₁ : Verdict) (z : Sizes) (at₁ : ℕ) (e₁ : read
                   card = record { number = z .number; k = z .k; p = z .p; m = z .m; generators = generators; counts = t .counts; checks = t .checks };
                 }) (sym (streams-got .2))
                 ∙ ap (λ (c : Card). record { outcome = accepted; card = withChecks c (streams-got .0) }) code-is
-                ∙ whole-card bs (head-got .1) rows-read streams-read l
+                ∙ whole-card rule bs (head-got .1) rows-read streams-read l

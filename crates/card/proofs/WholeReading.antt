@@ -10,10 +10,11 @@ use borrow.Author.Tests.{eqb-true, ltb-false}
 use Rattle.bits.proofs.Cases.{picked}
 use Rattle.card.specs.Outcome.Outcome.{accepted, refused}
 use Rattle.card.specs.Fields.{Fields, codeOf, cardOf}
-use Rattle.card.specs.Reading.{Read, byteField, readHead, readMasks, readGenerators, judgeAfter, readCheck, readStreams, readFields, answer, readCard}
+use Rattle.card.specs.Reading.{Read, byteField, readHead, readMasks, readGenerators, judgeAfter, readCheck, readStreams, readFields, answer, readUnder}
 use Rattle.card.specs.Reading.Field.{value}
 use Rattle.card.specs.Reading.Read.{got, fault}
 use Rattle.code.specs.declared.Card.{Card}
+use Rattle.card.specs.declared.CardRule.{CardRule}
 use Rattle.card.proofs.ReadParts.{not-got, got-what, got-where, field-got, next-got}
 
 -- ---- a check
@@ -42,17 +43,17 @@ check-is bs c i earlier at {vs} {at₁} e =
     (picked (eqb (judgeAfter c i earlier (b .0)) 0) (b .3))
 
 -- ---- the whole card
-pub record FieldsAre (bs : List ℕ) (f : Fields) (at : ℕ) : Type 0 where
+pub record FieldsAre (rule : CardRule) (bs : List ℕ) (f : Fields) (at : ℕ) : Type 0 where
   pub at₀ : ℕ
   pub at₁ : ℕ
-  pub head-read : readHead bs ≡ got (f .head) at₀
+  pub head-read : readHead rule bs ≡ got (f .head) at₀
   pub rows-read : readGenerators bs at₀ (f .head .k) (f .head .n - f .head .k) (f .head .m) ≡ got (f .rows) at₁
   pub streams-read : readStreams bs (codeOf (f .head) (f .rows)) (f .head .k) 0 at₁ ≡ got (f .streams) at
   pub at-end : length bs ≤ at
 
-pub fields-are : (bs : List ℕ) (f : Fields) (at : ℕ) → readFields bs ≡ got f at → FieldsAre bs f at
+pub fields-are : (rule : CardRule) (bs : List ℕ) (f : Fields) (at : ℕ) → readFields rule bs ≡ got f at → FieldsAre rule bs f at
 unfolding readFields
-fields-are bs f at e =
+fields-are rule bs f at e =
     let a = next-got _ _ e in
     let b = next-got _ _ (a .3) in
     let d = next-got _ _ (b .3) in
@@ -81,10 +82,10 @@ fields-are bs f at e =
 not-accepted : {A : Type 0} {n o : ℕ} → refused n o ≡ accepted → A
 not-accepted e = let z : _≡_ {A = ℕ} 0 1 = cc in absurd (omega arith)
 
-pub accepted-read : (bs : List ℕ) → readCard bs .outcome ≡ accepted → (f : Fields) × (at : ℕ) × (readFields bs ≡ got f at) × (readCard bs .card ≡ cardOf f)
-unfolding readCard
-accepted-read bs e = go (readFields bs) refl
+pub accepted-read : (rule : CardRule) (bs : List ℕ) → readUnder rule bs .outcome ≡ accepted → (f : Fields) × (at : ℕ) × (readFields rule bs ≡ got f at) × (readUnder rule bs .card ≡ cardOf f)
+unfolding readUnder
+accepted-read rule bs e = go (readFields rule bs) refl
   where
-    go : (r : Read Fields) → readFields bs ≡ r → (f : Fields) × (at : ℕ) × (readFields bs ≡ got f at) × (answer (readFields bs) .card ≡ cardOf f)
+    go : (r : Read Fields) → readFields rule bs ≡ r → (f : Fields) × (at : ℕ) × (readFields rule bs ≡ got f at) × (answer (readFields rule bs) .card ≡ cardOf f)
     go (got f at) q = (f, at, q, ap (λ r. answer r .card) q)
     go (fault n o) q = not-accepted (sym (ap (λ r. answer r .outcome) q) ∙ e)

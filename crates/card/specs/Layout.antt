@@ -1,5 +1,6 @@
 -- The bytes of a card within the limits, said without reading: document 01, "The card", and "It is within the limits if its bytes are the fields
--- of 'The card' and nothing more, each, stated or default, in the range that 2 to 7 name".
+-- of 'The card' and nothing more, each, stated or default, in the range that 2 to 7 name"; document 02, R-4, "a stated default lies outside the
+-- limits for cards brought by a site".
 -- Assumes nothing.
 use Prim.Native.Nat.{ℕ, _+_, _-_, _*_, _/_, _%_, _^_, _≤_, _<_}
 use mathlib.Core.Path.{_≡_}
@@ -9,6 +10,8 @@ use lib.ListN.{length, getD}
 use lib.Dec.{eqb}
 use Rattle.code.specs.Checks.{Orthogonal}
 use Rattle.card.specs.Fields.{Head, Stream, Fields, cardOf}
+use Rattle.card.specs.declared.CardRule.{CardRule}
+use Rattle.card.specs.declared.CardRule.the-variants.{Former, Present}
 
 -- ---- the bytes
 
@@ -84,7 +87,7 @@ AllStreamsIn p m [] = Unit {0}
 AllStreamsIn p m (s ∷ rest) = StreamIn p m s × AllStreamsIn p m rest
 
 -- each field, stated or default, in its range
-pub record InLimits (f : Fields) : Type 0 where
+pub record InRanges (f : Fields) : Type 0 where
   pub kStands-bit : f .head .kStands ≤ 1
   pub nStands-bit : f .head .nStands ≤ 1
   pub number-most : f .head .number ≤ 255
@@ -100,12 +103,26 @@ pub record InLimits (f : Fields) : Type 0 where
   pub stream-count : length (f .streams) ≡ f .head .k
   pub streams-in : AllStreamsIn (f .head .n - f .head .k) (f .head .m) (f .streams)
 
+-- no field that stands is equal to its default: 1 for k, 2 for n
+pub record StatesNoDefault (f : Fields) : Type 0 where
+  pub k-left-out : f .head .k ≡ 1 → f .head .kStands ≡ 0
+  pub n-left-out : f .head .n ≡ 2 → f .head .nStands ≡ 0
+
+-- what a rule demands of the defaults: the former one nothing
+abbrev pub DefaultsIn : CardRule → Fields → Type 0
+DefaultsIn Former f = Unit {0}
+DefaultsIn Present f = StatesNoDefault f
+
+pub record InLimits (rule : CardRule) (f : Fields) : Type 0 where
+  pub ranges : InRanges f
+  pub defaults : DefaultsIn rule f
+
 -- the checks of every information stream are orthogonal
 abbrev pub TrulyOrthogonal : Fields → Type 0
 TrulyOrthogonal f = (i : ℕ) → i < f .head .k → Orthogonal (cardOf f) i
 
 -- the bytes are a card within the limits whose checks are truly orthogonal, and these are its fields
-pub record Acceptable (bytes : List ℕ) (f : Fields) : Type 0 where
-  pub limits : InLimits f
+pub record Acceptable (rule : CardRule) (bytes : List ℕ) (f : Fields) : Type 0 where
+  pub limits : InLimits rule f
   pub orthogonal : TrulyOrthogonal f
   pub bytes-are : bytes ≡ layout f

@@ -3,6 +3,7 @@ pub mod Outcome
 pub mod Fields
 pub mod Reading
 pub mod Layout
+pub mod Written
 pub mod Promise
 pub mod Parts
 pub mod Bench

@@ -7,7 +7,7 @@ use mathlib.Core.List.{List}
 use lib.ListN.{replicate}
 use Rattle.card.specs.Refusals.{numberOf}
 use Rattle.card.specs.Fields.{Head, Stream, storeCounts, storeStreams}
-use Rattle.card.specs.Reading.{Field, Read, byteField, kField, nField}
+use Rattle.card.specs.Reading.{Field, Read, field, byteField}
 use Rattle.card.specs.Reading.Field.{value, bad}
 use Rattle.card.specs.Reading.Read.{got, fault}
 use Rattle.code.specs.declared.Card.{Card}
@@ -40,11 +40,11 @@ pub record Opened (bs : List ℕ) (map number : ℕ) : Type 0 where
   pub map-read : byteField bs 0 0 3 5 ≡ value map
   pub number-read : byteField bs 1 0 255 1 ≡ value number
 
--- .. and so are k and n
-pub record Sized (bs : List ℕ) (map number k n : ℕ) : Type 0 where
-  pub opened : Opened bs map number
-  pub k-read : kField bs (map % 2) ≡ value k
-  pub n-read : nField bs (2 + map % 2) (map / 2) k ≡ value n
+-- the head from m on, where the fields before it are read
+abbrev pub headFrom : List ℕ → ℕ → ℕ → ℕ → ℕ → Read Head
+headFrom bs map number k n =
+    field (byteField bs (2 + map % 2 + map / 2) 0 31 4) λ m.
+    got (record { kStands = map % 2; nStands = map / 2; number = number; k = k; n = n; m = m }) (2 + map % 2 + map / 2 + 1)
 
 -- what the head states
 abbrev pub sizesOf : Head → Sizes

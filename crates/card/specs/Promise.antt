@@ -1,29 +1,41 @@
--- The promise of `read_card`: document 01, "A card is accepted if reading gives no refusal", the notice's "a card is accepted exactly when both
--- hold", and "No accepted card has more than 1,163 bytes".
+-- What reading a card promises, under either rule: document 01, "A card is accepted if reading gives no refusal", the notice's "a card is accepted
+-- exactly when both hold", and "No accepted card has more than 1,163 bytes"; and under the present one, document 02, R-4, "equal cards, the order
+-- of checks included, means equal bytes".
 -- Assumes nothing.
-use Prim.Native.Nat.{ℕ, _≤_}
+use Prim.Native.Nat.{ℕ, _≤_, _<_}
 use mathlib.Core.Path.{_≡_}
 use mathlib.Core.List.{List}
-use lib.ListN.{length}
+use lib.ListN.{length, getD}
 use Rattle.card.specs.Outcome.{published, outcomeOf}
 use Rattle.card.specs.Outcome.Outcome.{accepted}
 use Rattle.card.specs.Fields.{Fields, cardOf}
 use Rattle.card.specs.Layout.{Acceptable}
 use Rattle.code.specs.Guarantees.{Guarantees}
-use Rattle.card.specs.Reading.{readCard}
+use Rattle.card.specs.Reading.{readUnder, readCard}
 use Rattle.card.specs.declared.CardRead.{CardRead}
+use Rattle.card.specs.declared.CardRule.{CardRule}
 
 -- what the bytes of an accepted card are: fields within the limits whose checks are orthogonal, and the card is theirs
-pub record AcceptedAs (bytes : List ℕ) (r : CardRead) (f : Fields) : Type 0 where
-  pub acceptable : Acceptable bytes f
+pub record AcceptedAs (rule : CardRule) (bytes : List ℕ) (r : CardRead) (f : Fields) : Type 0 where
+  pub acceptable : Acceptable rule bytes f
   pub card-is : r .card ≡ cardOf f
 
-pub record CardPromise (bytes : List ℕ) (r : CardRead) : Type 0 where
+pub record CardPromise (rule : CardRule) (bytes : List ℕ) (r : CardRead) : Type 0 where
   -- the verdict, its number and offset, and the card, for every slice
-  pub is-read : published r ≡ readCard bytes
+  pub is-read : published r ≡ readUnder rule bytes
   -- nobody can get another card accepted ..
-  pub only-these : outcomeOf (r .verdict) ≡ accepted → (f : Fields) × AcceptedAs bytes r f
+  pub only-these : outcomeOf (r .verdict) ≡ accepted → (f : Fields) × AcceptedAs rule bytes r f
   -- .. and nobody who brings such a card can be turned down
-  pub all-these : (f : Fields) → Acceptable bytes f → outcomeOf (r .verdict) ≡ accepted
+  pub all-these : (f : Fields) → Acceptable rule bytes f → outcomeOf (r .verdict) ≡ accepted
   pub length-most : outcomeOf (r .verdict) ≡ accepted → length bytes ≤ 1163
   pub guaranteed : outcomeOf (r .verdict) ≡ accepted → Guarantees (r .card)
+
+-- of a card that was read and another, both accepted: their values are equal exactly when their bytes are
+pub record EqualCards (bytes : List ℕ) (r : CardRead) (other : List ℕ) : Type 0 where
+  pub equal-bytes : readCard other .card ≡ r .card → other ≡ bytes
+  pub equal-values : other ≡ bytes → readCard other .card ≡ r .card
+
+abbrev pub OneForm : List ℕ → CardRead → Type 0
+OneForm bytes r =
+    (other : List ℕ) → ((i : ℕ) → getD other i 0 < 256) → outcomeOf (r .verdict) ≡ accepted → readCard other .outcome ≡ accepted
+    → EqualCards bytes r other

@@ -1,4 +1,5 @@
--- Reading a card front to back; the first fault stops it. Document 01, "The card" and "Refused because of the input", 1 to 10.
+-- Reading a card front to back; the first fault stops it. Document 01, "The card" and "Refused because of the input", 1 to 10; document 02, R-4,
+-- 18.
 -- A refusal is given by its number and byte offset. "A field cut short comes before its value": each field is tested for its end first.
 -- Assumes nothing.
 use Prim.Native.Nat.{ℕ, zero, suc, _+_, _-_, _*_, _/_, _%_, _^_}
@@ -12,6 +13,8 @@ use Rattle.code.specs.Checks.{touchesBy}
 use Rattle.code.specs.Judging.{judge}
 use Rattle.card.specs.Fields.{Head, Stream, Fields, emptyCard, codeOf, cardOf}
 use Rattle.code.specs.declared.Card.{Card}
+use Rattle.card.specs.declared.CardRule.{CardRule}
+use Rattle.card.specs.declared.CardRule.the-variants.{Former, Present}
 
 -- ---- what reading gives
 
@@ -48,13 +51,21 @@ byteField bs at low high number =
     (cond (leb low (getD bs at 0)) (cond (leb (getD bs at 0) high) (value (getD bs at 0)) (bad number at)) (bad number at))
     (bad 1 (length bs))
 
+-- a field that stands, read at an offset: by the former rule as it is; from R-4 on "Card reading refuses such a field with 18 at the field's offset,
+-- directly after the field's own range is found good"
+unfoldable pub standingField : CardRule → ℕ → ℕ → Field → Field
+standingField Former default at f = f
+standingField Present default at (bad n o) = bad n o
+standingField Present default at (value v) = cond (eqb v default) (bad 18 at) (value v)
+
 -- k: 1 to 4, else 2; where it does not stand, 1
-unfoldable pub kField : List ℕ → ℕ → Field
-kField bs stands = cond (eqb stands 1) (byteField bs 2 1 4 2) (value 1)
+unfoldable pub kField : CardRule → List ℕ → ℕ → Field
+kField rule bs stands = cond (eqb stands 1) (standingField rule 1 2 (byteField bs 2 1 4 2)) (value 1)
 
 -- n: k + 1 to 8, else 3; where it does not stand, 2, tested directly after k, offset 0
-unfoldable pub nField : List ℕ → ℕ → ℕ → ℕ → Field
-nField bs at stands k = cond (eqb stands 1) (byteField bs at (k + 1) 8 3) (cond (leb (k + 1) 2) (value 2) (bad 3 0))
+unfoldable pub nField : CardRule → List ℕ → ℕ → ℕ → ℕ → Field
+nField rule bs at stands k =
+    cond (eqb stands 1) (standingField rule 2 at (byteField bs at (k + 1) 8 3)) (cond (leb (k + 1) 2) (value 2) (bad 3 0))
 
 -- the generator map, two bytes, of k × p bits: cut short 1, a bit beyond them 5
 unfoldable pub mapField : List ℕ → ℕ → ℕ → Field
@@ -76,12 +87,12 @@ maskField bs at m =
 -- ---- the head and the generators
 
 -- byte 0, with one of bits 2 to 7 set 5; the card number; k, n, if they stand; m, above 31 4
-unfoldable pub readHead : List ℕ → Read Head
-readHead bs =
+unfoldable pub readHead : CardRule → List ℕ → Read Head
+readHead rule bs =
     field (byteField bs 0 0 3 5) λ map.
     field (byteField bs 1 0 255 1) λ number.
-    field (kField bs (map % 2)) λ k.
-    field (nField bs (2 + map % 2) (map / 2) k) λ n.
+    field (kField rule bs (map % 2)) λ k.
+    field (nField rule bs (2 + map % 2) (map / 2) k) λ n.
     field (byteField bs (2 + map % 2 + map / 2) 0 31 4) λ m.
     got (record { kStands = map % 2; nStands = map / 2; number = number; k = k; n = n; m = m }) (2 + map % 2 + map / 2 + 1)
 
@@ -149,9 +160,9 @@ readStreams bs c (suc left) i at =
 abbrev pub ended : List ℕ → ℕ → Fields → Read Fields
 ended bs at fields = cond (ltb at (length bs)) (fault 10 at) (got fields at)
 
-unfoldable pub readFields : List ℕ → Read Fields
-readFields bs =
-    next (readHead bs) λ h at.
+unfoldable pub readFields : CardRule → List ℕ → Read Fields
+readFields rule bs =
+    next (readHead rule bs) λ h at.
     next (readGenerators bs at (h .k) (h .n - h .k) (h .m)) λ rows at₁.
     next (readStreams bs (codeOf h rows) (h .k) 0 at₁) λ streams at₂.
     ended bs at₂ (record { head = h; rows = rows; streams = streams })
@@ -164,6 +175,10 @@ abbrev pub answer : Read Fields → CardOutcome
 answer (got f at) = record { outcome = accepted; card = cardOf f }
 answer (fault n o) = refusedCard n o
 
--- what reading a card comes to
-unfoldable pub readCard : List ℕ → CardOutcome
-readCard bs = answer (readFields bs)
+-- what reading a card comes to under a rule
+unfoldable pub readUnder : CardRule → List ℕ → CardOutcome
+readUnder rule bs = answer (readFields rule bs)
+
+-- .. and from R-4 on, for everything but cards that were stored before
+abbrev pub readCard : List ℕ → CardOutcome
+readCard bs = readUnder Present bs

@@ -3,8 +3,9 @@ ghost use mathlib.Core.Path.{_≡_};
 ghost use Prim.Native.Nat.{_+_, _<_, _≤_};
 ghost use lib.ListN.{length};
 ghost use Rattle.card.specs.Refusals.{numberOf};
-ghost use Rattle.card.specs.Reading.{byteField, kField, nField, mapField, wordAt, maskField, standingMask};
+ghost use Rattle.card.specs.Reading.{byteField, standingField, kField, nField, mapField, wordAt, maskField, standingMask};
 ghost use Rattle.card.specs.Parts.{fieldOf, verdictOf};
+use crate::CardRule;
 use crate::Refusal;
 use crate::Verdict;
 
@@ -62,23 +63,44 @@ pub(crate) fn byte_field(
     FieldRead::Value(v)
 }
 
+// A field that was read where its bit of byte 0 stands: under the present rule it is refused with its default.
+fn standing_field(rule: CardRule, field: FieldRead, default: u32, at: usize) -> FieldRead
+    ensures { λ r. ⌜ fieldOf r ≡ standingField rule default at (fieldOf field) ⌝ }
+{
+    let CardRule::Present = rule else {
+        return field;
+    };
+    let FieldRead::Value(v) = field else {
+        return field;
+    };
+    if v == default {
+        return FieldRead::Fault {
+            refusal: Refusal::DefaultStated,
+            offset: at,
+        };
+    }
+    field
+}
+
 // k, where its bit of byte 0 stands.
-pub(crate) fn k_field(bytes: &[u8], stands: u32) -> FieldRead
-    ensures { λ r. ⌜ fieldOf r ≡ kField (now (bytes .entry)) stands ⌝ }
+pub(crate) fn k_field(rule: CardRule, bytes: &[u8], stands: u32) -> FieldRead
+    ensures { λ r. ⌜ fieldOf r ≡ kField rule (now (bytes .entry)) stands ⌝ }
 {
     if stands == 1 {
-        return byte_field(bytes, 2, 1, 4, Refusal::KOutOfRange);
+        let field = byte_field(bytes, 2, 1, 4, Refusal::KOutOfRange);
+        return standing_field(rule, field, 1, 2);
     }
     FieldRead::Value(1)
 }
 
 // n, where its bit of byte 0 stands.
-pub(crate) fn n_field(bytes: &[u8], at: usize, stands: u32, k: u32) -> FieldRead
+pub(crate) fn n_field(rule: CardRule, bytes: &[u8], at: usize, stands: u32, k: u32) -> FieldRead
     requires { ⌜ k ≤ 4 ⌝ }
-    ensures { λ r. ⌜ fieldOf r ≡ nField (now (bytes .entry)) at stands k ⌝ }
+    ensures { λ r. ⌜ fieldOf r ≡ nField rule (now (bytes .entry)) at stands k ⌝ }
 {
     if stands == 1 {
-        return byte_field(bytes, at, k + 1, 8, Refusal::NOutOfRange);
+        let field = byte_field(bytes, at, k + 1, 8, Refusal::NOutOfRange);
+        return standing_field(rule, field, 2, at);
     }
     if k + 1 <= 2 {
         return FieldRead::Value(2);

@@ -6,7 +6,7 @@ mod parts;
 ghost use mathlib.Core.Path.{_≡_};
 ghost use Rattle.card.specs.Refusals.{numberOf};
 ghost use Rattle.card.specs.Fields.{emptyCard};
-ghost use Rattle.card.specs.Promise.{CardPromise};
+ghost use Rattle.card.specs.Promise.{CardPromise, OneForm};
 use code::Card;
 
 // Why something is refused. Each case has its published number, by `refusal_number`.
@@ -28,6 +28,14 @@ pub enum Refusal {
     TooManyFrames,
     TailBegun,
     TailSent,
+    DefaultStated,
+}
+
+// Under which rule a card is read. A field that stands with its default is good under the former one, under which stored cards are read a last
+// time, and is refused under the present one.
+pub enum CardRule {
+    Former,
+    Present,
 }
 
 // What reading a card comes to.
@@ -64,6 +72,7 @@ pub fn refusal_number(refusal: Refusal) -> u8
         Refusal::TooManyFrames => 15,
         Refusal::TailBegun => 16,
         Refusal::TailSent => 17,
+        Refusal::DefaultStated => 18,
     }
 }
 
@@ -78,10 +87,10 @@ fn refused(verdict: Verdict) -> CardRead
 }
 
 // A card read from its bytes, front to back; the first fault stops it.
-pub fn read_card(bytes: &[u8]) -> CardRead
-    ensures { λ r. ⌜ CardPromise (now (bytes .entry)) r ⌝ }
+pub fn read_under(rule: CardRule, bytes: &[u8]) -> CardRead
+    ensures { λ r. ⌜ CardPromise rule (now (bytes .entry)) r ⌝ }
 {
-    let head = parts::read_head(bytes);
+    let head = parts::read_head(rule, bytes);
     let head_verdict = head.verdict;
     if let Verdict::Refused {
         refusal: _,
@@ -127,4 +136,12 @@ pub fn read_card(bytes: &[u8]) -> CardRead
             checks,
         },
     }
+}
+
+// A card that a site brings.
+pub fn read_card(bytes: &[u8]) -> CardRead
+    ensures { λ r. ⌜ CardPromise CardRule.Present (now (bytes .entry)) r ⌝ }
+    ensures { λ r. ⌜ OneForm (now (bytes .entry)) r ⌝ }
+{
+    read_under(CardRule::Present, bytes)
 }

@@ -5,7 +5,8 @@ ghost use Prim.Native.Nat.{_<_, _≤_};
 ghost use lib.ListN.{length, replicate};
 ghost use Rattle.card.specs.Fields.{emptyCard, storeRows};
 ghost use Rattle.card.specs.Reading.{mapRead, readHead, readGenerators};
-ghost use Rattle.card.specs.Parts.{verdictOf, readBy, Opened, Sized, sizesOf};
+ghost use Rattle.card.specs.Parts.{verdictOf, readBy, Opened, headFrom, sizesOf};
+use crate::CardRule;
 use crate::Refusal;
 use crate::Verdict;
 use crate::fields;
@@ -65,8 +66,8 @@ fn fault_head(field: FieldRead) -> HeadRead
 }
 
 // The fields before the generators.
-pub(crate) fn read_head(bytes: &[u8]) -> HeadRead
-    ensures { λ r. ⌜ readBy (r .verdict) (r .sizes) (r .at) ≡ mapRead sizesOf (readHead (now (bytes .entry))) ⌝ }
+pub(crate) fn read_head(rule: CardRule, bytes: &[u8]) -> HeadRead
+    ensures { λ r. ⌜ readBy (r .verdict) (r .sizes) (r .at) ≡ mapRead sizesOf (readHead rule (now (bytes .entry))) ⌝ }
 {
     let map_read = fields::byte_field(bytes, 0, 0, 3, Refusal::MapBeyondStreams);
     let FieldRead::Value(map) = map_read else {
@@ -76,19 +77,19 @@ pub(crate) fn read_head(bytes: &[u8]) -> HeadRead
     let FieldRead::Value(number) = number_read else {
         return fault_head(number_read);
     };
-    read_sizes(bytes, map, number)
+    read_sizes(rule, bytes, map, number)
 }
 
 // The head from k on, where byte 0 and the card number are read.
-fn read_sizes(bytes: &[u8], map: u32, number: u32) -> HeadRead
+fn read_sizes(rule: CardRule, bytes: &[u8], map: u32, number: u32) -> HeadRead
     requires { ⌜ Opened (now bytes) map number ⌝ }
-    ensures { λ r. ⌜ readBy (r .verdict) (r .sizes) (r .at) ≡ mapRead sizesOf (readHead (now (bytes .entry))) ⌝ }
+    ensures { λ r. ⌜ readBy (r .verdict) (r .sizes) (r .at) ≡ mapRead sizesOf (readHead rule (now (bytes .entry))) ⌝ }
 {
-    let k_read = fields::k_field(bytes, map % 2);
+    let k_read = fields::k_field(rule, bytes, map % 2);
     let FieldRead::Value(k) = k_read else {
         return fault_head(k_read);
     };
-    let n_read = fields::n_field(bytes, 2 + (map % 2) as usize, map / 2, k);
+    let n_read = fields::n_field(rule, bytes, 2 + (map % 2) as usize, map / 2, k);
     let FieldRead::Value(n) = n_read else {
         return fault_head(n_read);
     };
@@ -97,8 +98,8 @@ fn read_sizes(bytes: &[u8], map: u32, number: u32) -> HeadRead
 
 // The head from m on, where k and n are read too.
 fn read_memory(bytes: &[u8], map: u32, number: u32, k: u32, n: u32) -> HeadRead
-    requires { ⌜ Sized (now bytes) map number k n ⌝ }
-    ensures { λ r. ⌜ readBy (r .verdict) (r .sizes) (r .at) ≡ mapRead sizesOf (readHead (now (bytes .entry))) ⌝ }
+    requires { ⌜ (number ≤ 255) × (k ≤ n) ⌝ }
+    ensures { λ r. ⌜ readBy (r .verdict) (r .sizes) (r .at) ≡ mapRead sizesOf (headFrom (now (bytes .entry)) map number k n) ⌝ }
 {
     let at = 2 + (map % 2) as usize + (map / 2) as usize;
     let m_read = fields::byte_field(bytes, at, 0, 31, Refusal::MemoryAboveLimit);

@@ -18,6 +18,7 @@ use Rattle.card.specs.Outcome.{outcomeOf, CardOutcome}
 use Rattle.card.specs.Outcome.Outcome.{accepted}
 use Rattle.card.specs.Promise.{CardPromise}
 use Rattle.card.specs.declared.CardRead.{CardRead}
+use Rattle.card.specs.declared.CardRule.the-variants.{Present}
 use Rattle.card.proofs.Acceptance.{reads-back}
 use Rattle.card.proofs.RefusedCard.{not-both}
 use Rattle.outcomes.proofs.ReadCards.{wrongT, read-P, read-wrong-T}
@@ -89,7 +90,7 @@ acceptable-P = record { limits = limits-P; orthogonal = orthogonal; bytes-are = 
 
 -- ---- the clauses
 
-module _ (r : CardRead) (promise : CardPromise cardP r) where
+module _ (r : CardRead) (promise : CardPromise Present cardP r) where
   pub accepted-P : outcomeOf (r .verdict) ≡ accepted
   accepted-P = promise .all-these fieldsP acceptable-P
 
@@ -103,5 +104,5 @@ module _ (r : CardRead) (promise : CardPromise cardP r) where
 unacceptable-T : (f : Fields) → Acceptable wrongT f → ⊥
 unacceptable-T f a = not-both (ap (λ (r : CardOutcome). r .outcome) (reads-back wrongT f a)) read-wrong-T
 
-pub not-accepted-T : (r : CardRead) → CardPromise wrongT r → outcomeOf (r .verdict) ≡ accepted → ⊥
+pub not-accepted-T : (r : CardRead) → CardPromise Present wrongT r → outcomeOf (r .verdict) ≡ accepted → ⊥
 not-accepted-T r promise e = let found = promise .only-these e in unacceptable-T (found .0) (found .1 .acceptable)

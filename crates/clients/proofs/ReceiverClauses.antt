@@ -10,6 +10,7 @@ use Rattle.card.specs.Bench.{cardP}
 use Rattle.card.specs.Outcome.{Outcome, outcomeOf, CardOutcome}
 use Rattle.card.specs.Outcome.Outcome.{accepted}
 use Rattle.card.specs.Reading.{readCard}
+use Rattle.card.specs.declared.CardRule.the-variants.{Present}
 use Rattle.card.proofs.RefusedCard.{refused-card}
 use Rattle.receiving.specs.Answers.{Given, waiting, frame, answerOf, Reply}
 use Rattle.receiving.specs.Calls.{numberIn, replyOf, answers, sessionAfter}
@@ -57,7 +58,7 @@ module _ {S : Type 0} (x : Circuit S) (Claims : Card → S → Type 0) (carded :
       let e = promise .verdict-is ∙ read-short-P in
       let shut = promise .shut 1 19 e in
       let number : x .card s .number ≡ 0 =
-      ap (λ (s : S). x .card s .number) (promise .session-is) ∙ ap (λ (c : Card). c .number) (carded _ _ ∙ refused-card (take 19 cardP) read-short-P) in
+      ap (λ (s : S). x .card s .number) (promise .session-is) ∙ ap (λ (c : Card). c .number) (carded _ _ ∙ refused-card Present (take 19 cardP) read-short-P) in
       record { verdict = e; other-number = shut .other-refused _ (λ q. omega arith); no-room = shut .own-refused _ (sym number) }
 
 -- ---- the first circuit

@@ -14,11 +14,12 @@ use Rattle.card.specs.Outcome.Outcome.{accepted}
 use Rattle.card.specs.Promise.{CardPromise}
 use Rattle.card.specs.Reading.{readCard}
 use Rattle.card.specs.declared.CardRead.{CardRead}
+use Rattle.card.specs.declared.CardRule.the-variants.{Present}
 use Rattle.card.proofs.Acceptance.{reads-back}
 use Rattle.outcomes.specs.Outcome.{BurstOutcome, outcome, refusedOf, givenOf}
 use Rattle.outcomes.proofs.ReadCards.{bytesT, read-P, read-short-P, read-T}
 use Rattle.writer.specs.Bench.{statedP, W, cardW, statedW}
-use Rattle.writer.specs.Written.{written}
+use Rattle.card.specs.Written.{written}
 use Rattle.writer.specs.Outcome.{writeUnder, writeOf}
 use Rattle.writer.specs.Claims.{ReadsAs, StatesNoDefault, Plain, WrittenForm, CarriesOn}
 use Rattle.writer.proofs.Answers.{write-refused, write-accepted, write-short, write-given}
@@ -81,7 +82,7 @@ unfolding refusedOf
 refused-P output = write-refused (take 19 cardP) output read-short-P
 
 -- ---- `write_card`, with the card that P's bytes with stated defaults are read as
-module _ (read : CardRead) (promise : CardPromise statedP read) where
+module _ (read : CardRead) (promise : CardPromise Present statedP read) where
   card-P : read .card ≡ P
   card-P = ap (λ (r : CardOutcome). r .card) (promise .is-read ∙ read-stated-P)
 

@@ -6,7 +6,7 @@ use lib.ListN.{length}
 use Rattle.code.specs.Bench.{P}
 use Rattle.card.specs.Bench.{cardP}
 use Rattle.card.specs.Fields.{Fields}
-use Rattle.writer.specs.Written.{written}
+use Rattle.card.specs.Written.{written}
 use Rattle.writer.specs.Claims.{ReadsAs, Plain}
 
 pub record FormOfP : Type 0 where

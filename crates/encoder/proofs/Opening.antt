@@ -8,6 +8,7 @@ use Rattle.card.specs.Reading.{readCard}
 use Rattle.code.specs.Code.{mostFrames}
 use Rattle.code.specs.declared.Card.{Card}
 use Rattle.card.specs.declared.CardRead.{CardRead}
+use Rattle.card.specs.declared.CardRule.the-variants.{Present}
 use Rattle.card.proofs.RefusedCard.{not-both, refused-card}
 use Rattle.encoder.specs.Claims.{Claims}
 use Rattle.encoder.specs.Opening.{closed, sessionFor, Closed, OpenPromise}
@@ -20,7 +21,7 @@ closed-refuses : Closed closed
 unfolding closed
 closed-refuses = record { information-refused = λ f. send-full closed f refl refl; tail-refused = tail-out closed refl }
 
-module _ (bytes : List ℕ) (read : CardRead) (promise : CardPromise bytes read) (s : Session) where
+module _ (bytes : List ℕ) (read : CardRead) (promise : CardPromise Present bytes read) (s : Session) where
   outcome-is : outcomeOf (read .verdict) ≡ readCard bytes .outcome
   outcome-is = ap (λ (r : CardOutcome). r .outcome) (promise .is-read)
 
@@ -41,7 +42,7 @@ module _ (bytes : List ℕ) (read : CardRead) (promise : CardPromise bytes read)
   pub opened-refused : {n at : ℕ} → outcomeOf (read .verdict) ≡ refused n at → s ≡ unsentOf (read .card) mostFrames → OpenPromise bytes (record { verdict = read .verdict; session = s })
   unfolding sessionFor closed
   opened-refused e q =
-      let own : s ≡ closed = q ∙ ap (λ (c : Card). unsentOf c mostFrames) (card-is ∙ refused-card bytes (sym outcome-is ∙ e)) in
+      let own : s ≡ closed = q ∙ ap (λ (c : Card). unsentOf c mostFrames) (card-is ∙ refused-card Present bytes (sym outcome-is ∙ e)) in
       record {
         verdict-is = outcome-is;
         session-is = own ∙ ap (λ (o : Outcome). sessionFor o (readCard bytes .card)) (sym e ∙ outcome-is);

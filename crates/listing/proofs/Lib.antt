@@ -4,3 +4,4 @@ pub mod LineParts
 pub mod Room
 pub mod HandedOut
 pub mod Listed
+pub mod Rewritten

@@ -1,5 +1,6 @@
-// The listing: a card and received frames as text.
+// The listing: a card and received frames as text. Beside it, stored cards written anew.
 mod lines;
+pub mod rewriting;
 mod text;
 
 ghost use mathlib.Core.Path.{_≡_};

@@ -13,6 +13,7 @@ use Rattle.card.specs.Promise.{CardPromise}
 use Rattle.card.specs.Reading.{readCard}
 use Rattle.code.specs.declared.Card.{Card}
 use Rattle.card.specs.declared.CardRead.{CardRead}
+use Rattle.card.specs.declared.CardRule.the-variants.{Present}
 use Rattle.code.proofs.Sent.{sent-length}
 use Rattle.outcomes.specs.Outcome.{BurstOutcome, outcome, refusedOf, givenOf, underCard}
 use Rattle.outcomes.specs.Sending.{sendUnder}
@@ -47,7 +48,7 @@ module _ (c : Card) (input output : List ℕ) where
       under-sent b = rw (sent-length c input, le-ltb mostFrames (length input + c .m) r, le-ltb (length output) (length input + c .m) o, b)
 
 -- with the card's bytes, whatever the call comes to under a card
-module _ (bytes : List ℕ) (read : CardRead) (promise : CardPromise bytes read) (under : Card → BurstOutcome) (output : List ℕ) where
+module _ (bytes : List ℕ) (read : CardRead) (promise : CardPromise Present bytes read) (under : Card → BurstOutcome) (output : List ℕ) where
   pub by-card : {burst : BurstOutcome} → outcomeOf (read .verdict) ≡ accepted → burst ≡ under (read .card)
       → burst ≡ underCard (readCard bytes .outcome) (under (readCard bytes .card)) output
   unfolding underCard

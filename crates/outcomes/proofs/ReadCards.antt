@@ -12,8 +12,8 @@ use Rattle.code.specs.Judging.{clashes, judge}
 use Rattle.card.specs.Bench.{checks, cardP, cardT}
 use Rattle.card.specs.Fields.{store, storeRows, storeChecks, storeStreams, storeCounts, cardOf}
 use Rattle.card.specs.Outcome.Outcome.{accepted, refused}
-use Rattle.card.specs.Reading.{byteField, kField, nField, mapField, wordAt, maskField, readHead, standingMask, readMasks, readRows, readGenerators}
-use Rattle.card.specs.Reading.{touchedBy, readCheck, readChecks, readStreams, readFields, readCard}
+use Rattle.card.specs.Reading.{byteField, standingField, kField, nField, mapField, wordAt, maskField, readHead, standingMask, readMasks, readRows, readGenerators}
+use Rattle.card.specs.Reading.{touchedBy, readCheck, readChecks, readStreams, readFields, readUnder, readCard}
 
 -- T as the document has it, and with s0, s2 for stream 1
 abbrev pub bytesT : List ℕ
@@ -24,7 +24,7 @@ wrongT = cardT (s 0 ∷ s 2 ∷ []) (s 0 ∷ s 2 ∷ [])
 
 computed : (readCard cardP ≡ record { outcome = accepted; card = P }) × (readCard (take 19 cardP) .outcome ≡ refused 1 19)
     × (readCard bytesT ≡ record { outcome = accepted; card = T }) × (readCard wrongT .outcome ≡ refused 8 21)
-unfolding sumBelow back bit generator count checkMask touchesInfo touchesBy store storeRows storeChecks storeStreams storeCounts cardOf byteField kField nField mapField wordAt maskField readHead standingMask readMasks readRows readGenerators besides touchedBy clashes judge readCheck readChecks readStreams readFields readCard checks
+unfolding sumBelow back bit generator count checkMask touchesInfo touchesBy store storeRows storeChecks storeStreams storeCounts cardOf byteField standingField kField nField mapField wordAt maskField readHead standingMask readMasks readRows readGenerators besides touchedBy clashes judge readCheck readChecks readStreams readFields readUnder checks
 computed = (refl, refl, refl, refl)
 
 pub read-P : readCard cardP ≡ record { outcome = accepted; card = P }

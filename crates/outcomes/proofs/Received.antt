@@ -16,6 +16,7 @@ use Rattle.card.specs.Promise.{CardPromise}
 use Rattle.card.specs.Reading.{readCard}
 use Rattle.code.specs.declared.Card.{Card}
 use Rattle.card.specs.declared.CardRead.{CardRead}
+use Rattle.card.specs.declared.CardRule.the-variants.{Present}
 use Rattle.majority.specs.Rule.{decoded}
 use Rattle.majority.proofs.Streams.{decoded-length}
 use Rattle.majority.proofs.Theorem.{decoded-as-sent}
@@ -45,7 +46,7 @@ module _ (c : Card) (input output : List ℕ) where
 -- ---- with the card's bytes
 
 -- what an accepted card guarantees, of the card by definition
-guaranteed : (bytes : List ℕ) (read : CardRead) → CardPromise bytes read → readCard bytes .outcome ≡ accepted → Guarantees (readCard bytes .card)
+guaranteed : (bytes : List ℕ) (read : CardRead) → CardPromise Present bytes read → readCard bytes .outcome ≡ accepted → Guarantees (readCard bytes .card)
 guaranteed bytes read promise e =
     subst Guarantees (ap (λ (r : CardOutcome). r .card) (promise .is-read)) (promise .guaranteed (ap (λ (r : CardOutcome). r .outcome) (promise .is-read) ∙ e))
 
@@ -65,7 +66,7 @@ given-came-out frames output e =
     }
 
 -- the third term for a burst
-pub comes-out-as-sent : (bytes : List ℕ) (read : CardRead) → CardPromise bytes read → (input output : List ℕ) {answer : ℤ} {after : List ℕ}
+pub comes-out-as-sent : (bytes : List ℕ) (read : CardRead) → CardPromise Present bytes read → (input output : List ℕ) {answer : ℤ} {after : List ℕ}
     → outcome answer after ≡ receiveOf bytes input output → ComesOutAsSent bytes input output answer after
 comes-out-as-sent bytes read promise input output e info A S =
     let c = readCard bytes .card in
@@ -75,7 +76,7 @@ comes-out-as-sent bytes read promise input output e info A S =
     ∙ ap (λ (l : List ℕ). givenOf l output) (decoded-as-sent c G info input (S .information) (omega arith) (S .correctable)))
 
 -- both clauses of the promise
-pub received : (bytes : List ℕ) (read : CardRead) → CardPromise bytes read → (input output : List ℕ) {answer : ℤ} {after : List ℕ}
+pub received : (bytes : List ℕ) (read : CardRead) → CardPromise Present bytes read → (input output : List ℕ) {answer : ℤ} {after : List ℕ}
     → outcome answer after ≡ receiveOf bytes input output
     → (outcome answer after ≡ receiveOf bytes input output) × ComesOutAsSent bytes input output answer after
 received bytes read promise input output e = (e, comes-out-as-sent bytes read promise input output e)

@@ -10,6 +10,7 @@ use Rattle.card.specs.Outcome.{Outcome, outcomeOf, CardOutcome}
 use Rattle.card.specs.Promise.{CardPromise}
 use Rattle.card.specs.Reading.{readCard}
 use Rattle.card.specs.declared.CardRead.{CardRead}
+use Rattle.card.specs.declared.CardRule.the-variants.{Present}
 use Rattle.receiving.specs.Receive.{Circuit, openOf, refusedOf}
 use Rattle.receiving.specs.Calls.{Call, byte, readings, numberIn, replyOf}
 use Rattle.receiving.specs.Opening.{countedAt, Opens}
@@ -29,7 +30,7 @@ module _ {S : Type 0} (x : Circuit S) (s : S) (full : x .received s ≡ mostFram
 
 module _ {S : Type 0} (x : Circuit S) (Claims : Card → S → Type 0) (counted : (c : Card) (n : ℕ) → x .received (x .fresh c n) ≡ n)
     (claims-of : (c : Card) → Guarantees c → Claims c (openOf x c)) where
-  pub opens : (bytes : List ℕ) (read : CardRead) → CardPromise bytes read → (n : ℕ) (s : S) → n ≡ countedAt (outcomeOf (read .verdict)) → s ≡ x .fresh (read .card) n
+  pub opens : (bytes : List ℕ) (read : CardRead) → CardPromise Present bytes read → (n : ℕ) (s : S) → n ≡ countedAt (outcomeOf (read .verdict)) → s ≡ x .fresh (read .card) n
       → Opens x Claims bytes (outcomeOf (read .verdict)) s
   unfolding countedAt openOf
   opens bytes read promise n s q e =

@@ -1,26 +1,30 @@
 -- What writing a card comes to: under each condition, and from what was laid out in no room, which counts the bytes, and in the output.
-use Prim.Native.Nat.{ℕ, _-_, _≤_, _<_, min}
+use Prim.Native.Nat.{ℕ, zero, suc, _-_, _≤_, _<_, min}
 use mathlib.Core.Path.{_≡_, refl, sym, ap, ap₂, _∙_}
 use mathlib.Core.List.{List, [], _∷_, _++_}
 use mathlib.Core.Logic.{⊎-elim}
 use native.Mathlib.Omega.{arith}
-use lib.ListN.{length, drop}
+use lib.ListN.{length, drop, length-append}
 use lib.IntN.{pos, negℤ, pos-ne-negsuc}
 use lib.Signed.{mag}
 use borrow.Author.Tests.{lt-ltb, le-ltb}
 use Rattle.bits.proofs.Cases.{le-or-lt}
 use Rattle.code.specs.declared.Card.{Card}
-use Rattle.card.specs.Layout.{layout}
+use Rattle.card.specs.Layout.{layoutHead, layoutRows, layoutStreams, layout}
 use Rattle.card.specs.Outcome.{Outcome, CardOutcome}
 use Rattle.card.specs.Outcome.Outcome.{refused}
 use Rattle.card.specs.Reading.{readCard}
+use Rattle.card.specs.Refusals.{numberOf}
+use Rattle.card.specs.declared.Refusal.{Refusal}
+use Rattle.card.proofs.CardLength.{head-size}
 use Rattle.outcomes.specs.Outcome.{BurstOutcome, outcome, refusedOf, givenOf, underCard}
 use Rattle.outcomes.specs.Wrote.{Wrote}
 use Rattle.outcomes.proofs.Outcomes.{refused-is, given-is}
 use Rattle.outcomes.proofs.Writing.{wrote-as, wrote-length, wrote-front}
-use Rattle.writer.specs.Written.{fieldsWith, fieldsOf, written}
-use Rattle.writer.specs.Outcome.{writeUnder, writeOf}
+use Rattle.card.specs.Written.{fieldsWith, fieldsOf, written}
+use Rattle.writer.specs.Outcome.{answerOf, writeUnder, writeOf}
 use Rattle.writer.specs.Claims.{ReadsAs}
+use Rattle.writer.specs.declared.CardWritten.the-variants.{Refused}
 
 -- ---- with the card's bytes
 module _ (card output : List ℕ) where
@@ -34,6 +38,16 @@ module _ (card output : List ℕ) where
   write-accepted e = ap (λ (r : CardOutcome). underCard (r .outcome) (writeUnder (r .card) output) output) e
 
 -- ---- a card
+written-some : (c : Card) → 0 < length (written c)
+unfolding written layout
+written-some c =
+    let f = fieldsOf c in
+    omega (arith, length-append (layoutHead (f .head)) (layoutRows (f .rows) ++ layoutStreams (f .streams)), head-size (f .head))
+
+no-refusal : (n count : ℕ) → 0 < count → negℤ (pos n) ≡ pos count → ⊥
+no-refusal zero count h e = let z : 0 ≡ count = ap mag e in omega arith
+no-refusal (suc n) count h e = pos-ne-negsuc count n (sym e)
+
 module _ (c : Card) (output : List ℕ) where
   pub write-short : length output < length (written c) → writeUnder c output ≡ refusedOf 13 output
   unfolding writeUnder
@@ -42,6 +56,13 @@ module _ (c : Card) (output : List ℕ) where
   pub write-given : length (written c) ≤ length output → writeUnder c output ≡ givenOf (written c) output
   unfolding writeUnder
   write-given l = rw (le-ltb (length output) (length (written c)) l)
+
+  -- no call with room enough is refused
+  pub never-refused : (refusal : Refusal) {after : List ℕ} → length (written c) ≤ length output → outcome (answerOf (Refused refusal)) after ≡ writeUnder c output
+      → ⊥
+  unfolding givenOf
+  never-refused refusal l e =
+      no-refusal (numberOf refusal) (length (written c)) (written-some c) (ap (λ (b : BurstOutcome). b .answer) (e ∙ write-given l))
 
   -- a count that is answered is that of the written bytes, which stand in the output
   module _ {n : ℕ} {after : List ℕ} (e : outcome (pos n) after ≡ writeUnder c output) where

@@ -15,11 +15,13 @@ use Rattle.card.specs.Outcome.Outcome.{accepted, refused}
 use Rattle.card.specs.Promise.{CardPromise}
 use Rattle.card.specs.Reading.{readCard}
 use Rattle.card.specs.declared.CardRead.{CardRead}
+use Rattle.card.specs.declared.CardRule.{CardRule}
+use Rattle.card.specs.declared.CardRule.the-variants.{Present}
 use Rattle.card.proofs.Acceptance as acceptance
 use Rattle.outcomes.specs.Outcome.{BurstOutcome, outcome, refusedOf, givenOf}
-use Rattle.writer.specs.Written.{written}
+use Rattle.card.specs.Written.{written}
 use Rattle.writer.specs.Outcome.{writeUnder, writeOf}
-use Rattle.writer.specs.Claims.{StatesNoDefault, CarriesOn}
+use Rattle.writer.specs.Claims.{ReadsUnder, CarriesOn}
 use Rattle.writer.proofs.Answers.{write-refused, write-accepted, write-given, answered, count-is}
 use Rattle.writer.proofs.Forms.{written-form}
 
@@ -38,36 +40,33 @@ module _ (output : List ℕ) {after : List ℕ} (n : ℕ) (positive : 0 < n) whe
 
   read-back : (card : List ℕ) (o : Outcome) (c : Card) → readCard card ≡ record { outcome = o; card = c }
       → outcome (pos n) after ≡ writeOf card output → readCard (take n after) ≡ readCard card
-  read-back card accepted c e q = ap readCard (written-bytes c (q ∙ write-accepted card output e)) ∙ written-form c .reads-back card e ∙ sym e
+  read-back card accepted c e q = ap readCard (written-bytes c (q ∙ write-accepted card output e)) ∙ written-form c .reads-back Present card e ∙ sym e
   read-back card (refused m at) c e q = absurd (not-refused m (q ∙ write-refused card output (ap (λ (r : CardOutcome). r .outcome) e)))
 
 -- ---- the card that is read
+module _ {rule : CardRule} {card : List ℕ} {read : CardRead} (promise : CardPromise rule card read) (e : outcomeOf (read .verdict) ≡ accepted) where
+  pub read-as : ReadsUnder rule card (read .card)
+  read-as = sym (promise .is-read) ∙ ap (λ (o : Outcome). record { outcome = o; card = read .card }) e
 
--- a card that is accepted has a written form that is no longer than any card
-pub accepted-length : (card : List ℕ) (read : CardRead) → CardPromise card read → outcomeOf (read .verdict) ≡ accepted → length (written (read .card)) ≤ 1163
-accepted-length card read promise e =
-    written-form (read .card) .length-most card (sym (promise .is-read) ∙ ap (λ (o : Outcome). record { outcome = o; card = read .card }) e)
+  -- a card that is accepted has a written form that is no longer than any card
+  pub accepted-length : length (written (read .card)) ≤ 1163
+  accepted-length = written-form (read .card) .length-most rule card read-as
 
 -- ---- the claims of a call
 module _ (card output : List ℕ) where
-  fit : (f : Fields) → Acceptable card f → length card ≤ length output → writeOf card output ≡ givenOf (written (cardOf f)) output
-  fit f a room =
-      write-accepted card output (acceptance.reads-back card f a)
-      ∙ write-given (cardOf f) output (omega (arith, written-form (cardOf f) .shortest card f a refl))
-
-  come-back : (f : Fields) → Acceptable card f → StatesNoDefault f → length card ≤ length output → writeOf card output ≡ givenOf card output
-  come-back f a s room =
-      fit f a room
-      ∙ ap (λ (bytes : List ℕ). givenOf bytes output)
-      (written-form (cardOf f) .one-only card f (record { acceptable = a; card-is = refl; states-none = s }))
+  come-back : (f : Fields) → Acceptable Present card f → length card ≤ length output → writeOf card output ≡ givenOf card output
+  come-back f a room =
+      let same = written-form (cardOf f) .one-only card f (record { acceptable = a; card-is = refl }) in
+      write-accepted card output (acceptance.reads-back Present card f a)
+      ∙ write-given (cardOf f) output (omega (arith, ap length same))
+      ∙ ap (λ (bytes : List ℕ). givenOf bytes output) same
 
   carries-on : {answer : ℤ} {after : List ℕ} → outcome answer after ≡ writeOf card output → CarriesOn card output answer after
   carries-on {after = after} e =
       record {
         reads-back = λ n positive count.
             read-back output n positive card (readCard card .outcome) (readCard card .card) refl (ap (λ (z : ℤ). outcome z after) (sym count) ∙ e);
-        fits = λ f a room. e ∙ fit f a room;
-        comes-back = λ f a s room. e ∙ come-back f a s room;
+        comes-back = λ f a room. e ∙ come-back f a room;
       }
 
   -- both clauses of the promise

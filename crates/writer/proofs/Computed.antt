@@ -10,10 +10,11 @@ use Rattle.card.specs.Bench.{checks, cardP}
 use Rattle.card.specs.Fields.{store, storeRows, storeChecks, storeStreams, storeCounts, cardOf}
 use Rattle.card.specs.Layout.{bytes4, stands, mapOf, layoutMasks, optional, layoutHead, allRows, layoutRows, layoutChecks, layoutStreams, layout}
 use Rattle.card.specs.Outcome.Outcome.{accepted}
-use Rattle.card.specs.Reading.{byteField, kField, nField, mapField, wordAt, maskField, readHead, standingMask, readMasks, readRows, readGenerators}
-use Rattle.card.specs.Reading.{touchedBy, readCheck, readChecks, readStreams, readFields, readCard}
+use Rattle.card.specs.Reading.{byteField, standingField, kField, nField, mapField, wordAt, maskField, readHead, standingMask, readMasks, readRows, readGenerators}
+use Rattle.card.specs.declared.CardRule.the-variants.{Former}
+use Rattle.card.specs.Reading.{touchedBy, readCheck, readChecks, readStreams, readFields, readUnder}
 use Rattle.outcomes.proofs.ReadCards.{bytesT}
-use Rattle.writer.specs.Written.{stated, masksAt, rowsOf, checksOf, streamOf, streamsOf, fieldsOf, written}
+use Rattle.card.specs.Written.{stated, masksAt, rowsOf, checksOf, streamOf, streamsOf, fieldsOf, written}
 use Rattle.writer.specs.Bench.{statedP, W, cardW, statedW}
 
 -- "a field equal to its default is left out", and no other; a mask that is zero does not stand
@@ -30,12 +31,12 @@ written-T = forms .1
 pub written-W : written W ≡ cardW
 written-W = forms .2
 
-readings : (readCard statedP ≡ record { outcome = accepted; card = P }) × (readCard statedW ≡ record { outcome = accepted; card = W })
-unfolding sumBelow back bit generator count checkMask touchesInfo touchesBy store storeRows storeChecks storeStreams storeCounts cardOf byteField kField nField mapField wordAt maskField readHead standingMask readMasks readRows readGenerators besides touchedBy clashes judge readCheck readChecks readStreams readFields readCard
+readings : (readUnder Former statedP ≡ record { outcome = accepted; card = P }) × (readUnder Former statedW ≡ record { outcome = accepted; card = W })
+unfolding sumBelow back bit generator count checkMask touchesInfo touchesBy store storeRows storeChecks storeStreams storeCounts cardOf byteField standingField kField nField mapField wordAt maskField readHead standingMask readMasks readRows readGenerators besides touchedBy clashes judge readCheck readChecks readStreams readFields readUnder
 readings = (refl, refl)
 
-pub read-stated-P : readCard statedP ≡ record { outcome = accepted; card = P }
+pub read-stated-P : readUnder Former statedP ≡ record { outcome = accepted; card = P }
 read-stated-P = readings .0
 
-pub read-stated-W : readCard statedW ≡ record { outcome = accepted; card = W }
+pub read-stated-W : readUnder Former statedW ≡ record { outcome = accepted; card = W }
 read-stated-W = readings .1

@@ -1,54 +1,28 @@
 -- The written form of a card, and what it is good for: it is read as that card, states no default, and is the only such form.
 use Prim.Native.Nat.{ℕ, _≤_}
-use mathlib.Core.Path.{_≡_, refl, sym, ap, ap₂, subst, _∙_}
+use mathlib.Core.Path.{_≡_, refl, sym, ap, subst, _∙_}
 use mathlib.Core.Logic.{⊎-elim}
 use mathlib.Core.List.{List, _++_}
 use native.Mathlib.Omega.{arith}
 use lib.ListN.{length, length-append}
-use borrow.Author.Tests.{eq-eqb, ne-eqb}
 use Rattle.bits.proofs.Cases.{same-or-not}
 use Rattle.code.specs.Checks.{Orthogonal}
 use Rattle.code.specs.declared.Card.{Card}
 use Rattle.card.specs.Fields.{Fields, cardOf}
-use Rattle.card.specs.Layout.{optional, layoutHead, layoutRows, layoutStreams, layout, InLimits, TrulyOrthogonal, Acceptable}
+use Rattle.card.specs.Layout.{optional, layoutHead, layoutRows, layoutStreams, layout, InRanges, TrulyOrthogonal}
+use Rattle.card.specs.Written.{stated, fieldsOf, written}
 use Rattle.card.specs.Outcome.{CardOutcome}
 use Rattle.card.specs.Outcome.Outcome.{accepted}
+use Rattle.card.specs.declared.CardRule.{CardRule}
+use Rattle.card.specs.declared.CardRule.the-variants.{Present}
 use Rattle.card.proofs.Acceptance.{reads-back}
 use Rattle.card.proofs.CardLength.{optional-length, head-size, layout-length}
 use Rattle.card.proofs.WholeReading.{accepted-read}
 use Rattle.card.proofs.Limits.{read-in, read-standing}
 use Rattle.card.proofs.Orthogonality.{standing-truly}
-use Rattle.writer.specs.Written.{stated, fieldsOf, written}
-use Rattle.writer.specs.Claims.{ReadsAs, StatesNoDefault, Plain, WrittenForm}
-use Rattle.writer.proofs.FieldsBack.{withoutDefaults, fields-back}
-
--- ---- a field's bit
-
-stated-most : (default v : ℕ) → stated default v ≤ 1
-unfolding stated
-stated-most default v = ⊎-elim (λ q. rw (eq-eqb v default q) (omega arith)) (λ q. rw (ne-eqb v default q) (omega arith)) (same-or-not v default)
-
--- a default is left out, ..
-default-stated : (default v : ℕ) → v ≡ default → stated default v ≡ 0
-unfolding stated
-default-stated default v e = rw (eq-eqb v default e)
-
--- .. and nothing else is
-stated-default : (default v : ℕ) → stated default v ≡ 0 → v ≡ default
-unfolding stated
-stated-default default v e = ⊎-elim (λ q. q) (λ q. absurd (omega (arith, rw (ne-eqb v default q) at e))) (same-or-not v default)
-
-stated-other : (default v : ℕ) → (v ≡ default → ⊥) → stated default v ≡ 1
-unfolding stated
-stated-other default v n = rw (ne-eqb v default n)
-
--- a bit that is zero where the field has its default, and only there
-stands-as : {stands : ℕ} (default v : ℕ) → stands ≤ 1 → (stands ≡ 0 → v ≡ default) → (v ≡ default → stands ≡ 0) → stated default v ≡ stands
-stands-as {stands} default v most out plain =
-    ⊎-elim (λ e. default-stated default v e ∙ sym (plain e)) (λ n. stated-other default v n ∙ sym (one n)) (same-or-not v default)
-  where
-    one : (v ≡ default → ⊥) → stands ≡ 1
-    one n = ⊎-elim (λ z. absurd (n (out z))) (λ z. omega arith) (same-or-not stands 0)
+use Rattle.card.proofs.FieldsBack.{withoutDefaults, fields-back}
+use Rattle.card.proofs.Defaults.{stated-most, default-stated, stated-default, plain-back}
+use Rattle.writer.specs.Claims.{ReadsUnder, ReadsAs, States, WrittenForm}
 
 -- a field that is left out only where it has its default is written in no more bytes than it was stated in
 field-shorter : {stands : ℕ} (default v : ℕ) → stands ≤ 1 → (stands ≡ 0 → v ≡ default) → length (optional (stated default v) v) ≤ length (optional stands v)
@@ -61,21 +35,7 @@ field-shorter {stands} default v most out =
 
 -- ---- fields without defaults
 module _ (f : Fields) where
-  states-none : StatesNoDefault (withoutDefaults f)
-  states-none = record { k-left-out = default-stated 1 (f .head .k); n-left-out = default-stated 2 (f .head .n) }
-
-  none-changes : InLimits f → StatesNoDefault f → withoutDefaults f ≡ f
-  none-changes w s =
-      ap₂
-      (λ (a b : ℕ). record {
-        head = record { kStands = a; nStands = b; number = f .head .number; k = f .head .k; n = f .head .n; m = f .head .m };
-        rows = f .rows;
-        streams = f .streams;
-      })
-      (stands-as 1 (f .head .k) (w .kStands-bit) (w .k-default) (s .k-left-out))
-      (stands-as 2 (f .head .n) (w .nStands-bit) (w .n-default) (s .n-left-out))
-
-  still-in : InLimits f → InLimits (withoutDefaults f)
+  still-in : InRanges f → InRanges (withoutDefaults f)
   still-in w =
       record {
         kStands-bit = stated-most 1 (f .head .k);
@@ -94,7 +54,7 @@ module _ (f : Fields) where
         streams-in = w .streams-in;
       }
 
-  layout-shorter : InLimits f → length (layout (withoutDefaults f)) ≤ length (layout f)
+  layout-shorter : InRanges f → length (layout (withoutDefaults f)) ≤ length (layout f)
   unfolding layout
   layout-shorter w =
       let rest = layoutRows (f .rows) ++ layoutStreams (f .streams) in
@@ -113,68 +73,68 @@ module _ (f : Fields) where
   same-card = refl
 
   -- what is written is within the limits and orthogonal, if the card is
-  laid-out : InLimits f → TrulyOrthogonal f → Plain (cardOf f) (written (cardOf f)) (withoutDefaults f)
+  laid-out : InRanges f → TrulyOrthogonal f → States Present (cardOf f) (written (cardOf f)) (withoutDefaults f)
   unfolding written
   laid-out w o =
       record {
         acceptable =
             record {
-              limits = still-in w;
+              limits =
+                  record {
+                    ranges = still-in w;
+                    defaults = record { k-left-out = default-stated 1 (f .head .k); n-left-out = default-stated 2 (f .head .n) };
+                  };
               orthogonal = λ i h. subst (λ (c : Card). Orthogonal c i) (sym same-card) (o i h);
               bytes-are = ap layout (fields-back f w);
             };
         card-is = same-card;
-        states-none = states-none;
       }
 
 -- ---- the claims of a card
 
 -- the fields that some accepted bytes state
-stated-by : (bytes : List ℕ) (c : Card) → ReadsAs bytes c → (f : Fields) × InLimits f × TrulyOrthogonal f × (cardOf f ≡ c)
-stated-by bytes c e =
-    let a = accepted-read bytes (ap (λ (r : CardOutcome). r .outcome) e) in
-    let w = read-in bytes (a .0) (a .1) (a .2) in (
+stated-by : (rule : CardRule) (bytes : List ℕ) (c : Card) → ReadsUnder rule bytes c → (f : Fields) × InRanges f × TrulyOrthogonal f × (cardOf f ≡ c)
+stated-by rule bytes c e =
+    let a = accepted-read rule bytes (ap (λ (r : CardOutcome). r .outcome) e) in
+    let w = read-in rule bytes (a .0) (a .1) (a .2) .ranges in (
       a .0,
       w,
-      standing-truly (a .0) w (read-standing bytes (a .0) (a .1) (a .2)),
+      standing-truly (a .0) w (read-standing rule bytes (a .0) (a .1) (a .2)),
       sym (a .3) ∙ ap (λ (r : CardOutcome). r .card) e,
     )
 
 module _ (c : Card) where
-  plain-form : (bytes : List ℕ) → ReadsAs bytes c → (f : Fields) × Plain c (written c) f
-  plain-form bytes e =
-      let s = stated-by bytes c e in
-      (withoutDefaults (s .0), subst (λ (c : Card). Plain c (written c) (withoutDefaults (s .0))) (s .3) (laid-out (s .0) (s .1) (s .2)))
+  form : (rule : CardRule) (bytes : List ℕ) → ReadsUnder rule bytes c → (f : Fields) × States Present c (written c) f
+  form rule bytes e =
+      let s = stated-by rule bytes c e in
+      (withoutDefaults (s .0), subst (λ (c : Card). States Present c (written c) (withoutDefaults (s .0))) (s .3) (laid-out (s .0) (s .1) (s .2)))
 
-  read-form : (bytes : List ℕ) → ReadsAs bytes c → ReadsAs (written c) c
-  read-form bytes e =
-      let form = plain-form bytes e in
-      reads-back (written c) (form .0) (form .1 .acceptable) ∙ ap (λ (c : Card). record { outcome = accepted; card = c }) (form .1 .card-is)
+  read-form : (rule : CardRule) (bytes : List ℕ) → ReadsUnder rule bytes c → ReadsAs (written c) c
+  read-form rule bytes e =
+      let f = form rule bytes e in
+      reads-back Present (written c) (f .0) (f .1 .acceptable) ∙ ap (λ (c : Card). record { outcome = accepted; card = c }) (f .1 .card-is)
 
-  only-form : (bytes : List ℕ) (f : Fields) → Plain c bytes f → written c ≡ bytes
+  only-form : (bytes : List ℕ) (f : Fields) → States Present c bytes f → written c ≡ bytes
   unfolding written
-  only-form bytes f plain =
-      let w = plain .acceptable .limits in
-      ap (λ (c : Card). layout (fieldsOf c)) (sym (plain .card-is))
-      ∙ ap layout (fields-back f w ∙ none-changes f w (plain .states-none))
-      ∙ sym (plain .acceptable .bytes-are)
+  only-form bytes f s =
+      ap (λ (c : Card). layout (fieldsOf c)) (sym (s .card-is)) ∙ ap layout (plain-back f (s .acceptable .limits)) ∙ sym (s .acceptable .bytes-are)
 
-  form-length : (bytes : List ℕ) → ReadsAs bytes c → length (written c) ≤ 1163
-  form-length bytes e =
-      let form = plain-form bytes e in
-      omega (arith, layout-length (form .0) (form .1 .acceptable .limits), ap length (form .1 .acceptable .bytes-are))
+  form-length : (rule : CardRule) (bytes : List ℕ) → ReadsUnder rule bytes c → length (written c) ≤ 1163
+  form-length rule bytes e =
+      let f = form rule bytes e in
+      omega (arith, layout-length (f .0) (f .1 .acceptable .limits .ranges), ap length (f .1 .acceptable .bytes-are))
 
-  shortest-form : (bytes : List ℕ) (f : Fields) → Acceptable bytes f → cardOf f ≡ c → length (written c) ≤ length bytes
+  shortest-form : (rule : CardRule) (bytes : List ℕ) (f : Fields) → States rule c bytes f → length (written c) ≤ length bytes
   unfolding written
-  shortest-form bytes f a e =
+  shortest-form rule bytes f s =
+      let w = s .acceptable .limits .ranges in
       omega (
         arith,
-        ap (λ (c : Card). length (layout (fieldsOf c))) (sym e),
-        ap (λ (f : Fields). length (layout f)) (fields-back f (a .limits)),
-        layout-shorter f (a .limits),
-        ap length (a .bytes-are),
+        ap (λ (c : Card). length (layout (fieldsOf c))) (sym (s .card-is)),
+        ap (λ (f : Fields). length (layout f)) (fields-back f w),
+        layout-shorter f w,
+        ap length (s .acceptable .bytes-are),
       )
 
   pub written-form : WrittenForm c
-  written-form =
-      record { reads-back = read-form; states-none = plain-form; one-only = only-form; length-most = form-length; shortest = shortest-form }
+  written-form = record { reads-back = read-form; states-it = form; one-only = only-form; length-most = form-length; shortest = shortest-form }

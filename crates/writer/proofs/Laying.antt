@@ -12,7 +12,7 @@ use Rattle.bits.proofs.Lists.{upTo-length, upTo-more}
 use Rattle.card.specs.Fields.{Stream}
 use Rattle.card.specs.Layout.{stands, mapOf, layoutMasks, optional, layoutHead, allRows, layoutRows, layoutChecks, layoutStreams}
 use Rattle.card.proofs.LayoutLaws as laws
-use Rattle.writer.specs.Written.{stated, headOf, masksAt, rowsOf, checksOf, streamOf, streamsOf}
+use Rattle.card.specs.Written.{stated, headOf, masksAt, rowsOf, checksOf, streamOf, streamsOf}
 
 -- ---- the head
 pub head-parts : (number k n m : ℕ) {a b : ℕ} → a ≡ stated 1 k → b ≡ stated 2 n

@@ -10,7 +10,7 @@ use Rattle.bits.specs.Sums.{upTo}
 use Rattle.card.specs.Layout.{layoutMasks, allRows, layoutRows, layoutChecks, layoutStreams}
 use Rattle.card.proofs.CardLength as card
 use Rattle.card.proofs.CardLength.{few-generators}
-use Rattle.writer.specs.Written.{masksAt, rowsOf, checksOf, streamOf, streamsOf}
+use Rattle.card.specs.Written.{masksAt, rowsOf, checksOf, streamOf, streamsOf}
 use Rattle.writer.proofs.Laying.{masks-count, rows-count, checks-next, streams-next}
 
 -- ---- masks

@@ -3,7 +3,6 @@ pub mod Laying
 pub mod Lengths
 pub mod Answers
 -- the claims
-pub mod FieldsBack
 pub mod Forms
 pub mod Carrying
 pub mod Computed

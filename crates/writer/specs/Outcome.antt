@@ -11,7 +11,7 @@ use Rattle.code.specs.declared.Card.{Card}
 use Rattle.card.specs.Refusals.{numberOf}
 use Rattle.card.specs.Reading.{readCard}
 use Rattle.outcomes.specs.Outcome.{BurstOutcome, refusedOf, givenOf, underCard}
-use Rattle.writer.specs.Written.{written}
+use Rattle.card.specs.Written.{written}
 use Rattle.writer.specs.declared.CardWritten.{CardWritten}
 use Rattle.writer.specs.declared.CardWritten.the-variants.{Count, Refused}
 

@@ -7,7 +7,7 @@ ghost use Prim.Native.Nat.{_+_, _≤_};
 ghost use Rattle.card.specs.Layout.{layout};
 ghost use Rattle.outcomes.specs.Outcome.{outcome};
 ghost use Rattle.outcomes.specs.Wrote.{Wrote};
-ghost use Rattle.writer.specs.Written.{fieldsWith};
+ghost use Rattle.card.specs.Written.{fieldsWith};
 ghost use Rattle.writer.specs.Outcome.{answerOf, writeUnder};
 ghost use Rattle.writer.specs.Claims.{WrittenForm};
 use card::Refusal;

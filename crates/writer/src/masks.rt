@@ -5,7 +5,7 @@ ghost use mathlib.Core.List.{[], _∷_};
 ghost use Prim.Native.Nat.{_+_, _*_, _^_, _<_, _≤_};
 ghost use Rattle.card.specs.Layout.{stands, mapOf, layoutMasks};
 ghost use Rattle.outcomes.specs.Wrote.{Wrote};
-ghost use Rattle.writer.specs.Written.{masksAt};
+ghost use Rattle.card.specs.Written.{masksAt};
 
 pub(crate) fn byte(output: &mut [u8], at: usize, value: u8) -> usize
     requires { ⌜ at < 4096 ⌝ }

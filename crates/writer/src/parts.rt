@@ -4,7 +4,7 @@ ghost use mathlib.Core.List.{[], _∷_};
 ghost use Prim.Native.Nat.{_+_, _*_, _<_, _≤_};
 ghost use Rattle.card.specs.Layout.{mapOf, layoutMasks, optional, layoutHead, allRows, layoutRows, layoutChecks, layoutStreams};
 ghost use Rattle.outcomes.specs.Wrote.{Wrote};
-ghost use Rattle.writer.specs.Written.{stated, headOf, masksAt, rowsOf, streamOf, streamsOf};
+ghost use Rattle.card.specs.Written.{stated, headOf, masksAt, rowsOf, streamOf, streamsOf};
 use crate::masks;
 use crate::masks::byte;
 

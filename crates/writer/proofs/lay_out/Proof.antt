@@ -5,7 +5,7 @@ use native.Mathlib.Omega.{arith}
 use Rattle.card.specs.Layout.{layoutHead, layoutRows, layoutStreams, layout}
 use Rattle.card.proofs.CardLength.{head-length}
 use Rattle.outcomes.proofs.Writing.{wrote-both}
-use Rattle.writer.specs.Written.{headOf, rowsOf, streamsOf}
+use Rattle.card.specs.Written.{headOf, rowsOf, streamsOf}
 use Rattle.writer.proofs.Lengths.{rows-length}
 use borrow.Author.Needs.{needs}
 use Rattle.writer.proofs.lay_out.Statement.{statement}

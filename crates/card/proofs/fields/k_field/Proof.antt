@@ -8,13 +8,16 @@ use Rattle.card.proofs.fields.k_field.Tie as tie
 byte-field-requires : tie.Need-byte-field-requires
 byte-field-requires c κs = search needs
 
+standing-field-requires : tie.Need-standing-field-requires
+standing-field-requires c κs = search needs
+
 returns : tie.Need-returns
 unfolding kField
-returns c = rw (eq-eqb _ _ (c .before .if1 .taken)) (c .byte-field .ensures)
+returns c = rw (eq-eqb _ _ (c .before .before .if1 .taken), ← c .before .byte-field .ensures) (c .standing-field .ensures)
 
 returns-2 : tie.Need-returns-2
 unfolding kField
 returns-2 c = simp (ne-eqb _ _ (c .if1 .left))
 
 pub k-field-spec : {M : Type 1} → statement M
-k-field-spec = tie.close (tie.spec byte-field-requires returns returns-2)
+k-field-spec = tie.close (tie.spec byte-field-requires standing-field-requires returns returns-2)

@@ -11,9 +11,12 @@ add-byte-field c = search needs
 byte-field-requires : tie.Need-byte-field-requires
 byte-field-requires c κs = search needs
 
+standing-field-requires : tie.Need-standing-field-requires
+standing-field-requires c κs = search needs
+
 returns : tie.Need-returns
 unfolding nField
-returns c = rw (eq-eqb _ _ (c .before .if1 .taken)) (c .byte-field .ensures)
+returns c = rw (eq-eqb _ _ (c .before .before .if1 .taken), ← c .before .byte-field .ensures) (c .standing-field .ensures)
 
 add-if2 : tie.Need-add-if2
 add-if2 c = search needs
@@ -28,4 +31,4 @@ returns-3 c = simp (ne-eqb _ _ (c .before .if1 .left), lt-leb _ _ (c .if2 .left)
 
 pub n-field-spec : {M : Type 1} → statement M
 n-field-spec =
-    tie.close (tie.spec add-byte-field byte-field-requires returns add-if2 returns-2 returns-3)
+    tie.close (tie.spec add-byte-field byte-field-requires standing-field-requires returns add-if2 returns-2 returns-3)

@@ -24,7 +24,7 @@ fault-head-requires c κs = search needs
 returns : tie.Need-returns
 returns c =
     refused-by (c .fault-head .result .sizes) (c .fault-head .result .at) (c .fault-head .ensures) (c .before .enum-told .given .1)
-    ∙ map-faulty _ (has-fault (c .before .before .before .byte-field .ensures) (c .before .enum-told .given .1))
+    ∙ map-faulty _ _ (has-fault (c .before .before .before .byte-field .ensures) (c .before .enum-told .given .1))
 
 -- byte 0 is read
 map-value : (c : tie.After-known-told) → byteField (now (c .before .before .before .before .before .args .bytes)) 0 0 3 5 ≡ value (c .before .map-read .given .0 .0)
@@ -45,7 +45,7 @@ fault-head-requires-2 c κs = search needs
 returns-2 : tie.Need-returns-2
 returns-2 c =
     refused-by (c .fault-head2 .result .sizes) (c .fault-head2 .result .at) (c .fault-head2 .ensures) (c .before .enum-told2 .given .1)
-    ∙ number-faulty _ (map-value (c .before .before .before .before)) (has-fault (c .before .before .before .byte-field2 .ensures) (c .before .enum-told2 .given .1))
+    ∙ number-faulty _ _ (map-value (c .before .before .before .before)) (has-fault (c .before .before .before .byte-field2 .ensures) (c .before .enum-told2 .given .1))
 
 read-sizes-requires : tie.Need-read-sizes-requires
 read-sizes-requires c κs =

@@ -1,7 +1,7 @@
 -- m, after the other fields of the head.
 use mathlib.Core.Path.{_∙_}
 use native.Mathlib.Omega.{arith}
-use Rattle.card.proofs.FieldValues.{has-value, has-fault, byte-is, n-is}
+use Rattle.card.proofs.FieldValues.{has-value, has-fault}
 use Rattle.card.proofs.HeadStages.{refused-by, m-faulty, head-whole}
 use borrow.Author.Needs.{needs}
 use Rattle.card.proofs.parts.read_memory.Statement.{statement}
@@ -34,18 +34,18 @@ fault-head-requires c κs = search needs
 returns : tie.Need-returns
 returns c =
     refused-by (c .fault-head .result .sizes) (c .fault-head .result .at) (c .fault-head .ensures) (c .before .enum-told .given .1)
-    ∙ m-faulty (c .before .before .before .before .before .pre) (has-fault (c .before .before .before .byte-field .ensures) (c .before .enum-told .given .1))
+    ∙ m-faulty _ _ _ _ _ (has-fault (c .before .before .before .byte-field .ensures) (c .before .enum-told .given .1))
 
 add-t10 : tie.Need-add-t10
 add-t10 c = search needs
 
 cast-t16 : tie.Need-cast-t16
 cast-t16 c =
-    let h = byte-is _ _ _ _ _ _ (c .before .before .before .before .before .pre .opened .number-read) .most in omega arith
+    search needs
 
 sub-t9 : tie.Need-sub-t9
 sub-t9 c =
-    let h = n-is _ _ _ _ _ (c .before .before .before .before .before .pre .n-read) .0 in omega arith
+    search needs
 
 cast-t13 : tie.Need-cast-t13
 cast-t13 c = search needs
@@ -55,7 +55,7 @@ cast-t17 c = search needs
 
 returns-2 : tie.Need-returns-2
 returns-2 c =
-    head-whole (c .before .before .before .before .before .pre) (has-value (c .before .before .before .byte-field .ensures) (c .before .m-read .given .1))
+    head-whole _ _ _ _ _ (has-value (c .before .before .before .byte-field .ensures) (c .before .m-read .given .1))
 
 pub read-memory-spec : {M : Type 1} → statement M
 read-memory-spec =

@@ -12,7 +12,7 @@ read-card-requires c κs = search needs
 
 returns : tie.Need-returns
 unfolding checks
-returns c = not-accepted-T _ (c .read-card .ensures)
+returns c = not-accepted-T _ (c .read-card .ensures .0)
 
 pub t-with-s2-is-not-accepted-spec : {M : Type 1} → statement M
 t-with-s2-is-not-accepted-spec = tie.close (tie.spec slice-aggregate-read-card read-card-requires returns)

@@ -7,7 +7,7 @@ read-card-requires : tie.Need-read-card-requires
 read-card-requires c κs = search needs
 
 returns : tie.Need-returns
-returns c e = omega (arith, c .read-card .ensures .length-most e)
+returns c e = omega (arith, c .read-card .ensures .0 .length-most e)
 
 pub too-long-is-not-accepted-spec : {M : Type 1} → statement M
 too-long-is-not-accepted-spec = tie.close (tie.spec read-card-requires returns)

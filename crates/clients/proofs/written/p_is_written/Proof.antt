@@ -16,8 +16,8 @@ returns : tie.Need-returns
 returns c =
     let read = c .before .before .read-card in
     let written = c .write-card in (
-      written-as-P (read .result) (read .ensures) _ (search needs) (written .ensures .0),
-      form-of-P (read .result) (read .ensures) (written .ensures .1),
+      written-as-P (read .result) (read .ensures .0) _ (search needs) (written .ensures .0),
+      form-of-P (read .result) (read .ensures .0) (written .ensures .1),
     )
 
 pub p-is-written-spec : {M : Type 1} → statement M

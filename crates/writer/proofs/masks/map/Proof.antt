@@ -5,7 +5,7 @@ use native.Mathlib.Nat.{le-antisymm}
 use native.Mathlib.Omega.{arith}
 use Rattle.bits.specs.Sums.{upTo}
 use Rattle.card.specs.Layout.{stands, mapOf}
-use Rattle.writer.specs.Written.{masksAt}
+use Rattle.card.specs.Written.{masksAt}
 use Rattle.writer.proofs.Laying.{map-next, map-below}
 use Rattle.writer.proofs.masks.map.Statement.{statement}
 use Rattle.writer.proofs.masks.map.Tie as tie

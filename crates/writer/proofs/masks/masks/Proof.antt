@@ -7,7 +7,7 @@ use Rattle.bits.specs.Sums.{upTo}
 use Rattle.card.specs.Layout.{layoutMasks}
 use Rattle.outcomes.specs.Wrote.{Wrote}
 use Rattle.outcomes.proofs.Writing.{wrote-nothing, wrote-as, wrote-both, wrote-length}
-use Rattle.writer.specs.Written.{masksAt}
+use Rattle.card.specs.Written.{masksAt}
 use Rattle.writer.proofs.Laying.{masks-next}
 use Rattle.writer.proofs.Lengths.{masks-length}
 use Rattle.writer.proofs.masks.masks.Statement.{statement}

@@ -2,7 +2,7 @@
 use native.Mathlib.Omega.{arith}
 use lib.Pow.{pow-mono}
 use Rattle.outcomes.proofs.Writing.{wrote-as, wrote-both}
-use Rattle.writer.specs.Written.{masksAt}
+use Rattle.card.specs.Written.{masksAt}
 use Rattle.writer.proofs.Laying.{check-parts}
 use borrow.Author.Needs.{needs}
 use Rattle.writer.proofs.parts.check.Statement.{statement}

@@ -2,7 +2,7 @@
 use borrow.Author.Tests.{eq-eqb, ne-eqb}
 use Rattle.card.specs.Layout.{optional}
 use Rattle.outcomes.proofs.Writing.{wrote-nothing}
-use Rattle.writer.specs.Written.{stated}
+use Rattle.card.specs.Written.{stated}
 use borrow.Author.Needs.{needs}
 use Rattle.writer.proofs.parts.field.Statement.{statement}
 use Rattle.writer.proofs.parts.field.Tie as tie

@@ -5,7 +5,7 @@ use native.Mathlib.Nat.{le-antisymm}
 use native.Mathlib.Omega.{arith}
 use Rattle.bits.specs.Sums.{upTo}
 use Rattle.card.specs.Layout.{mapOf, allRows}
-use Rattle.writer.specs.Written.{rowsOf}
+use Rattle.card.specs.Written.{rowsOf}
 use Rattle.writer.proofs.Laying.{rows-map-next, rows-map-below}
 use Rattle.card.proofs.CardLength.{few-generators}
 use Rattle.writer.proofs.Lengths.{row-within}

@@ -7,7 +7,7 @@ use Rattle.bits.specs.Sums.{upTo}
 use Rattle.card.specs.Layout.{layoutMasks, allRows}
 use Rattle.outcomes.specs.Wrote.{Wrote}
 use Rattle.outcomes.proofs.Writing.{wrote-nothing, wrote-as, wrote-both, wrote-length}
-use Rattle.writer.specs.Written.{rowsOf}
+use Rattle.card.specs.Written.{rowsOf}
 use Rattle.writer.proofs.Laying.{rows-next}
 use Rattle.writer.proofs.Lengths.{all-length, row-within}
 use Rattle.writer.proofs.parts.generator_masks.Statement.{statement}

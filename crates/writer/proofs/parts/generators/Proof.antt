@@ -1,6 +1,6 @@
 -- The two bytes of the map, and the masks.
 use Rattle.outcomes.proofs.Writing.{wrote-as, wrote-both}
-use Rattle.writer.specs.Written.{rowsOf}
+use Rattle.card.specs.Written.{rowsOf}
 use Rattle.writer.proofs.Laying.{rows-parts}
 use borrow.Author.Needs.{needs}
 use Rattle.writer.proofs.parts.generators.Statement.{statement}

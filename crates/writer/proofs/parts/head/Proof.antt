@@ -1,7 +1,7 @@
 -- Byte 0, the card number, k, n and m, one after the other.
 use native.Mathlib.Omega.{arith}
 use Rattle.outcomes.proofs.Writing.{wrote-as, wrote-both}
-use Rattle.writer.specs.Written.{stated}
+use Rattle.card.specs.Written.{stated}
 use Rattle.writer.proofs.Laying.{head-parts}
 use Rattle.card.proofs.CardLength.{optional-length}
 use borrow.Author.Needs.{needs}

@@ -1,7 +1,7 @@
 -- By the test.
 use native.Mathlib.Omega.{arith}
 use borrow.Author.Tests.{eq-eqb, ne-eqb}
-use Rattle.writer.specs.Written.{stated}
+use Rattle.card.specs.Written.{stated}
 use Rattle.writer.proofs.parts.stated.Statement.{statement}
 use Rattle.writer.proofs.parts.stated.Tie as tie
 

@@ -7,7 +7,7 @@ use Rattle.bits.specs.Sums.{upTo}
 use Rattle.card.specs.Layout.{layoutChecks}
 use Rattle.outcomes.specs.Wrote.{Wrote}
 use Rattle.outcomes.proofs.Writing.{wrote-nothing, wrote-as, wrote-both, wrote-length}
-use Rattle.writer.specs.Written.{checksOf}
+use Rattle.card.specs.Written.{checksOf}
 use Rattle.writer.proofs.Laying.{checks-next, stream-parts}
 use Rattle.writer.proofs.Lengths.{checks-length}
 use Rattle.writer.proofs.parts.stream.Statement.{statement}

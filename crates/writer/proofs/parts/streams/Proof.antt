@@ -7,7 +7,7 @@ use Rattle.bits.specs.Sums.{upTo}
 use Rattle.card.specs.Layout.{layoutStreams}
 use Rattle.outcomes.specs.Wrote.{Wrote}
 use Rattle.outcomes.proofs.Writing.{wrote-nothing, wrote-as, wrote-both, wrote-length}
-use Rattle.writer.specs.Written.{streamsOf}
+use Rattle.card.specs.Written.{streamsOf}
 use Rattle.writer.proofs.Laying.{streams-next}
 use Rattle.writer.proofs.Lengths.{streams-length}
 use Rattle.writer.proofs.parts.streams.Statement.{statement}

@@ -8,12 +8,12 @@ use lib.Seq.{ext-getD}
 use Rattle.bits.specs.Sums.{upTo}
 use Rattle.bits.proofs.Lists.{upTo-length, upTo-at}
 use Rattle.code.specs.Checks.{count, checkMask}
 use Rattle.card.specs.Fields.{Fields, cardOf}
-use Rattle.card.specs.Layout.{MasksIn, AllMasksIn, StreamIn, InLimits}
+use Rattle.card.specs.Layout.{MasksIn, AllMasksIn, StreamIn, InRanges}
 use Rattle.card.proofs.Stores.{noStream, stream-in}
 use Rattle.card.proofs.CardTables.{streamOf, generator-stated, count-stated, mask-stated}
-use Rattle.writer.specs.Written.{headOf, masksAt, rowsOf, checksOf, streamsOf, kOf, fieldsOf}
-use Rattle.writer.specs.Written as written
+use Rattle.card.specs.Written.{headOf, masksAt, rowsOf, checksOf, streamsOf, kOf, fieldsOf}
+use Rattle.card.specs.Written as written
 
 -- ---- lists of things that a function of the place gives
 module _ {A : Type 0} where
@@ -52,7 +52,7 @@ masks-in p m (vs ∷ checks) a (suc q) h = masks-in p m checks (a .1) q (omega a
 abbrev pub withoutDefaults : Fields → Fields
 withoutDefaults f = record { head = headOf (f .head .number) (f .head .k) (f .head .n) (f .head .m); rows = f .rows; streams = f .streams }
 
-module _ (f : Fields) (w : InLimits f) where
+module _ (f : Fields) (w : InRanges f) where
   abbrev p : ℕ
   p = f .head .n - f .head .k
 

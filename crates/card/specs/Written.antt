@@ -1,5 +1,5 @@
 -- The written form of a card: document 02, R-1 ("Write an accepted card out as bytes. A field equal to its default is left out, so the written
--- form of a card is one only"), as bytes that document 01, "The card", has (`card`, `Layout`).
+-- form of a card is one only"), as bytes that document 01, "The card", has (`Layout`).
 -- A `Card` value that was never read can hold numbers that no card states. They are held to the largest that its tables have places for, so that
 -- every value has a written form; of an accepted card none is changed.
 -- Assumes nothing.
