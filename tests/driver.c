@@ -1,7 +1,7 @@
 /* Sets the library (libburst.a, by include/burst.h) against the reference: random and damaged cards, each also
  * written out, cards that state a default, random bursts with few, many and only wrong digits, every output size
- * around the count. Each call's answer, every output byte, the guard bytes around each lent buffer, and the card and input
- * themselves are compared. What the library receives by the first circuit is also set against the reference's
+ * around the count. Each call's answer, every output byte, the guard bytes around each lent buffer, and the card and
+ * input themselves are compared. What the library receives by the first circuit is also set against the reference's
  * second one, on streams most of which are beyond the correctable number.
  *
  *     driver               everything, with the seed that is always the same
@@ -61,7 +61,8 @@ static struct {
     size_t longest;
 } written;
 
-/* The cards that state a default or come near to it, and of the refused random ones those that were cards before R-4. */
+/* The cards made to state a default or to come near to it; random ones that are refused and were cards before document
+ * 02's R-4; and how many of both were rewritten. */
 static struct {
     long ways[WAYS_OF_STATING];
     long random, rewritten;
