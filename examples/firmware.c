@@ -53,6 +53,8 @@ static void temperatures_of(const uint8_t frames[FRAMES], uint8_t temperatures[T
 static const char *meaning(int refusal)
 {
     switch (refusal) {
+    case BURST_DEFAULT_STATED:
+        return "the card has the former form, and must be rewritten";
     case BURST_OWN_DIGIT_UNTOUCHED:
     case BURST_ERROR_TOUCHED_BEFORE:
         return "the card's checks are unsafe";

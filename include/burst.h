@@ -31,7 +31,7 @@
  * A third function has nothing to do with frames. It gives a card back in the one form in which cards
  * are stored and carried (see "Cards written out" below):
  *
- *     card_write      a card, in                  ->  the same card in its written form, out
+ *     card_write      a card, in                  ->  the same card, written out
  *
  *
  * Frames
@@ -62,9 +62,8 @@
  *
  * Cards written out
  * -----------------
- * A card that was tuned on one unit can be carried to the next tunnel. The same card may be stated in
- * several ways: k is 1 and n is 2 where a card doesn't state them, and it may state them all the same.
- * card_write leaves out what is the default and keeps all the rest, the order of the checks too:
+ * A card that was tuned on one unit can be carried to the next tunnel; card_write tests it and writes it
+ * out, the order of its checks kept:
  *
  *     uint8_t written[BURST_MOST_CARD_BYTES];
  *     int32_t length = card_write(card, card_length, written, sizeof written);
@@ -72,13 +71,15 @@
  *         return show_refusal(-length);
  *     .. written[0] to written[length - 1] are the card, for the next unit ..
  *
- * - The written bytes are a good card, and the same one: each function here does by them just what it
- *   does by the card that was read.
- * - A card has one written form only. So two cards are equal, the order of their checks included,
- *   exactly if their written bytes are.
- * - A card that states no default comes back byte for byte; one that does comes back a byte shorter for
- *   each. What was written comes back as it is when it is written again.
+ * - A card has one form only: k is 1 and n is 2 where it doesn't state them, and it may not state these
+ *   all the same (18). So two good cards are equal, the order of their checks included, exactly if their
+ *   bytes are.
+ * - A good card therefore comes back byte for byte, and the answer is card_length.
  * - BURST_MOST_CARD_BYTES bytes of output are enough for every card, and so are card_length bytes.
+ *
+ * Once a card could state k as 1 and n as 2. A stored card that does is refused now, by every function
+ * here, and isn't lost: the program `rewrite` reads such a card from its standard input and writes it anew,
+ * a byte shorter for each, to its standard output. `./rewrite-cards FILE..` does this for stored files.
  *
  *
  * The answer
@@ -90,8 +91,8 @@
  *
  * Every possible input has one of these answers: there is nothing that you must test before the call,
  * provided each pointer and length tell the truth (see "What you owe" below). Which refusal is met
- * first is fixed too: the card's (1 to 10, in the order of its bytes), then 15, then 13, then 11. From
- * card_write there are the card's, then 13.
+ * first is fixed too: the card's (1 to 10 and 18, in the order of its bytes), then 15, then 13, then 11.
+ * From card_write there are the card's, then 13.
  *
  *
  * What is corrected
@@ -161,6 +162,9 @@ enum burst_refusal {
     BURST_CHECK_COUNT_OUT_OF_RANGE = 7, /* J is not 1 to 16 */
     BURST_BYTES_AFTER_CHECKS = 10,      /* bytes are left after the last check */
 
+    /* The card is one of before, to be rewritten (or is damaged): */
+    BURST_DEFAULT_STATED = 18,          /* it states k as 1 or n as 2; see "Cards written out" above */
+
     /* The card can be read, but a receiver that voted by it could spoil a burst: */
     BURST_OWN_DIGIT_UNTOUCHED = 8,      /* a check doesn't look at the digit that it votes on */
     BURST_ERROR_TOUCHED_BEFORE = 9,     /* two checks on one digit look at the same other digit */
@@ -194,12 +198,12 @@ int32_t burst_receive(const uint8_t *card, size_t card_length,
                       const uint8_t *input, size_t input_length,
                       uint8_t *output, size_t output_length);
 
-/* Writes a card out: its bytes in, the bytes of its one written form out; see "Cards written out" above.
+/* Writes a card out: its bytes in, the same bytes out if it is a good card; see "Cards written out" above.
  *
  *   card, card_length       the link card
  *   output, output_length   receives the written card; BURST_MOST_CARD_BYTES are always room enough
  *
- * Answers the count of output bytes, at most card_length, or minus a refusal (enum burst_refusal): the card's,
+ * Answers the count of output bytes, which is card_length, or minus a refusal (enum burst_refusal): the card's,
  * as burst_send refuses it, or else BURST_OUTPUT_TOO_SHORT. */
 int32_t card_write(const uint8_t *card, size_t card_length,
                    uint8_t *output, size_t output_length);

@@ -1,7 +1,12 @@
-"""Link cards, sending, receiving and the listing, in document 01's words. Nothing here is taken from the Rattle code.
+"""Link cards, sending, receiving and the listing, in document 01's words, and the rewriting of stored cards, in those of document 02's R-4.
+Nothing here is taken from the Rattle code.
 
 Made to be read, not to be fast. Streams are counted from 0; parity stream j is stream k + j. An error is a pair (b, stream).
 """
+
+
+# Under which rule a card is read: by the former one it could state k as 1 and n as 2, their defaults.
+FORMER, PRESENT = "former", "present"
 
 
 class Refused(Exception):
@@ -10,12 +15,15 @@ class Refused(Exception):
     def __init__(self, number, place):
         self.number, self.place = number, place
 
+    def line(self):
+        return f"refused {self.number} at {self.place}"
+
 
 class Fields:
     """A card's bytes as they are read: front to back, and the first fault stops it."""
 
-    def __init__(self, card):
-        self.card, self.at = card, 0
+    def __init__(self, card, rule):
+        self.card, self.rule, self.at = card, rule, 0
 
     def field(self, size, allowed, refusal):
         """The next field, an integer of `size` bytes. A field cut short comes before its value."""
@@ -25,6 +33,16 @@ class Fields:
         value = int.from_bytes(self.card[start : self.at], "little")
         if value not in allowed:
             raise Refused(refusal, start)
+        return value
+
+    def unless_default(self, stands, allowed, refusal, default):
+        """A field of one byte that is left out if it has its default. That it does is tested directly after its range."""
+        if not stands:
+            return default
+        start = self.at
+        value = self.field(1, allowed, refusal)
+        if value == default and self.rule == PRESENT:
+            raise Refused(18, start)
         return value
 
     def masks(self, size, count, m):
@@ -44,13 +62,13 @@ class Card:
         self.generators, self.checks = generators, checks
 
     @classmethod
-    def read(cls, card):
+    def read(cls, card, rule=PRESENT):
         """The card of these bytes, or its refusal."""
-        fields = Fields(card)
+        fields = Fields(card, rule)
         stands = fields.field(1, range(4), 5)
         number = fields.field(1, range(256), None)
-        k = fields.field(1, range(1, 5), 2) if stands & 1 else 1
-        n = fields.field(1, range(k + 1, 9), 3) if stands & 2 else 2
+        k = fields.unless_default(stands & 1, range(1, 5), 2, 1)
+        n = fields.unless_default(stands & 2, range(k + 1, 9), 3, 2)
         if n <= k:
             raise Refused(3, 0)  # n doesn't stand
         m = fields.field(1, range(32), 4)
@@ -71,11 +89,13 @@ class Card:
             raise Refused(10, fields.at)
         return made
 
-    def bytes(self):
-        """The card as the section "The card" lays it out; k and n stand where they are not the default."""
+    def bytes(self, state_k=False, state_n=False):
+        """The card as the section "The card" lays it out; k and n stand where they are not the default, or, as only the former rule allowed,
+        where they are to be stated all the same."""
         n = self.k + self.p
-        head = bytes([(self.k != 1) | (n != 2) << 1, self.number])
-        head += bytes([self.k] if self.k != 1 else []) + bytes([n] if n != 2 else []) + bytes([self.m])
+        state_k, state_n = state_k or self.k != 1, state_n or n != 2
+        head = bytes([state_k | state_n << 1, self.number])
+        head += bytes([self.k] if state_k else []) + bytes([n] if state_n else []) + bytes([self.m])
         generators = [g for row in self.generators for g in row]
         out = head + mapped(generators, 2)
         for checks in self.checks:
@@ -157,7 +177,7 @@ def listing(given):
         try:
             lines = listed(Card.read(card), frames)
         except Refused as refused:
-            lines = [f"refused {refused.number} at {refused.place}"]
+            lines = [refused.line()]
     return "".join(line + "\n" for line in lines).encode()
 
 
@@ -174,6 +194,16 @@ def listed(card, frames):
     return lines + [f"end {len(handed_out)}"]
 
 
+def rewriting(given):
+    """What the program `rewrite` writes for an input: the bytes of a stored card's written form, or a line."""
+    if 2048 < len(given):
+        return b"input too long\n"
+    try:
+        return Card.read(given, FORMER).bytes()
+    except Refused as refused:
+        return (refused.line() + "\n").encode()
+
+
 def framed(card, frames):
     """An input of the listing program: a two-byte card length, the card's bytes, the frames."""
     return len(card).to_bytes(2, "little") + card + bytes(frames)
@@ -185,4 +215,5 @@ Q = Card(8, 1, 2, 3, [[11]], [[[1], [2], [8]]])
 R = Card(9, 1, 2, 5, [[57]], [[[1], [8], [16], [2 | 32]]])
 T = Card(10, 2, 3, 2, [[3], [5]], [[[1], [2]], [[1], [4]]])
 assert P.bytes() == bytes.fromhex("00 07 01 01 00 03 00 00 00 02 01 01 00 00 00 01 02 00 00 00")
+assert rewriting(P.bytes(True, True)) == P.bytes()
 assert listing(framed(P.bytes(), [3, 3, 3, 2])) == b"card 7 k 1 n 2 m 1\n0 1\n1 0\n2 1\nend 3\n"

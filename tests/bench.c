@@ -20,7 +20,7 @@
 enum {
     LONG_BURST = 65536, /* information frames */
     SHORT_BURST = 64,   /* frames as sent, the tail included */
-    CARD_ROUNDS = 4000, /* of four cards each, on which the readers are compared */
+    CARD_ROUNDS = 4000, /* of five cards each, on which the readers are compared */
     MOST_ADDED = 4      /* bytes after a card */
 };
 
@@ -44,7 +44,7 @@ static void must(int holds, const char *what)
 
 /* ---- Whether the two readers agree ---- */
 
-static long cards_by_answer[11]; /* by the refusal's number; 0, accepted */
+static long cards_by_answer[HIGHEST_REFUSAL + 1]; /* by the refusal's number; 0, accepted */
 
 static void print_card(const uint8_t *card, size_t length)
 {
@@ -91,14 +91,28 @@ static size_t damage(struct random *r, uint8_t *card, size_t length)
     }
 }
 
+/* The card as it is, or now and then with the defaults that it has stated; and damaged. */
 static void compare_on_fields(struct random *r, const struct fields *fields)
 {
     uint8_t card[MOST_CARD_BYTES + MOST_ADDED];
-    int state_k = one_in(r, 2), state_n = one_in(r, 2);
-    size_t length = card_bytes(fields, state_k, state_n, card);
+    int state = one_in(r, 8) ? between(r, 1, 3) : 0;
+    size_t length = card_bytes(fields, state % 2, state / 2, card);
     compare_readers(card, length);
     length = damage(r, card, length);
     compare_readers(card, length);
+}
+
+/* A card that states a default or comes near to it: all refuse it, and where it must be. */
+static void compare_on_stated(struct random *r, enum stated way)
+{
+    static struct fields fields;
+    static struct stated_card stated;
+    static struct plain_card plain;
+    size_t offset;
+    random_stated_card(r, way, &fields, &stated);
+    compare_readers(stated.bytes, stated.length);
+    int refused = plain_read(stated.bytes, stated.length, &plain, &offset);
+    must(refused == stated.answer.refusal && offset == stated.answer.offset, "a stated default is refused where it stands");
 }
 
 static void compare_on_cuts(const struct subject *s)
@@ -110,10 +124,12 @@ static void compare_on_cuts(const struct subject *s)
 static void print_agreement(void)
 {
     long cards = 0;
-    for (int number = 0; number <= 10; number++)
+    for (int number = 0; number <= HIGHEST_REFUSAL; number++)
         cards += cards_by_answer[number];
     printf("The readers agree on %ld cards: %ld accepted, and refused", cards, cards_by_answer[0]);
-    for (int number = 1; number <= 10; number++) {
+    for (int number = 1; number <= HIGHEST_REFUSAL; number++) {
+        if (!refuses_cards(number))
+            continue;
         must(cards_by_answer[number] > 0, "every refusal of a card is met");
         printf("%s %d: %ld", number == 1 ? "" : ",", number, cards_by_answer[number]);
     }
@@ -129,6 +145,7 @@ static void compare_on_random_cards(void)
         compare_on_fields(&r, &fields);
         spoil_card(&r, &fields);
         compare_on_fields(&r, &fields);
+        compare_on_stated(&r, (enum stated)(round % WAYS_OF_STATING));
     }
 }
 

@@ -138,6 +138,11 @@ size_t without_defaults(const uint8_t *card, size_t length, uint8_t *bytes)
     return length;
 }
 
+int refuses_cards(int number)
+{
+    return (number >= 1 && number <= 10) || number == 18;
+}
+
 /* ---- The bench ("Cards on the bench") ---- */
 
 static void set_sizes(struct fields *card, int number, int k, int n, int m)
@@ -312,6 +317,77 @@ void random_card(struct random *r, struct fields *card)
     int most = one_in(r, 3) ? MOST_CHECKS : between(r, 1, MOST_CHECKS);
     int terms = one_in(r, 5) ? 12 : between(r, 1, 4);
     random_card_of_shape(r, k, n, m, most, terms, card);
+}
+
+/* Two checks of a stream in each other's place. */
+static void swap_checks(struct fields *card, int i, int one, int other)
+{
+    int kept[MOST_PARITY + 1][MOST_MEMORY + 1];
+    memcpy(kept, card->check[i][one], sizeof kept);
+    memcpy(card->check[i][one], card->check[i][other], sizeof kept);
+    memcpy(card->check[i][other], kept, sizeof kept);
+}
+
+int vary_card(struct random *r, struct fields *card)
+{
+    int i = between(r, 1, card->k), last = card->J[i];
+    int kind = below(r, last == 1 ? 2 : 5);
+    if (kind == 0 && card->m < MOST_MEMORY) {
+        card->m++; /* no mask has a term there, so nothing else comes of it */
+    } else if (kind <= 1) {
+        card->number = (card->number + between(r, 1, 255)) % 256;
+    } else if (kind == 2) {
+        memset(card->check[i][last], 0, sizeof card->check[i][last]);
+        card->J[i]--;
+    } else {
+        swap_checks(card, i, between(r, 1, last - 1), last);
+    }
+    return kind > 2;
+}
+
+/* ---- Cards that state a default ---- */
+
+static void state_as(struct stated_card *stated, const struct fields *card, int state_k, int state_n, int refusal,
+                     size_t offset)
+{
+    stated->length = card_bytes(card, state_k, state_n, stated->bytes);
+    stated->answer.refusal = refusal;
+    stated->answer.offset = offset;
+}
+
+void random_stated_card(struct random *r, enum stated way, struct fields *card, struct stated_card *stated)
+{
+    static const uint8_t beyond[] = {0, 1, 9, 10, 128, 255};
+    int k = way == N_STATED_UNDER_K ? between(r, 2, MOST_INFORMATION) : 1;
+    int n = way == N_STATED || way == BOTH_STATED ? 2 : between(r, k + 1, MOST_STREAMS);
+    random_card_of_shape(r, k, n, between(r, 0, MOST_MEMORY), between(r, 1, 6), 3, card);
+    switch (way) {
+    case K_STATED:
+        state_as(stated, card, 1, 0, 18, 2);
+        break;
+    case N_STATED:
+        state_as(stated, card, 0, 1, 18, 2);
+        break;
+    case BOTH_STATED:
+        state_as(stated, card, 1, 1, 18, 2);
+        break;
+    case K_STATED_N_CUT:
+        state_as(stated, card, 1, 1, 18, 2);
+        stated->length = 3;
+        break;
+    case K_STATED_N_BEYOND:
+        state_as(stated, card, 1, 1, 18, 2);
+        stated->bytes[3] = beyond[below(r, sizeof beyond)];
+        break;
+    case FIELD_CUT:
+        state_as(stated, card, one_in(r, 2), 1, 1, 2);
+        stated->length = 2;
+        break;
+    default: /* N_STATED_UNDER_K */
+        state_as(stated, card, 1, 1, 3, 3);
+        stated->bytes[3] = 2;
+        break;
+    }
 }
 
 void spoil_card(struct random *r, struct fields *card)

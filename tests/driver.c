@@ -1,8 +1,8 @@
 /* Sets the library (libburst.a, by include/burst.h) against the reference: random and damaged cards, each also
- * written out, random bursts with few, many and only wrong digits, every output size around the count. Each
- * call's answer, every output byte, the guard bytes around each lent buffer, and the card and input themselves
- * are compared. What the library receives by the first circuit is also set against the reference's second one, on
- * streams most of which are beyond the correctable number.
+ * written out, cards that state a default, random bursts with few, many and only wrong digits, every output size
+ * around the count. Each call's answer, every output byte, the guard bytes around each lent buffer, and the card and
+ * input themselves are compared. What the library receives by the first circuit is also set against the reference's
+ * second one, on streams most of which are beyond the correctable number.
  *
  *     driver               everything, with the seed that is always the same
  *     driver SEED          everything, with another seed
@@ -24,8 +24,10 @@
 #include <unistd.h>
 
 enum {
-    RANDOM_CARDS = 8000,   /* rounds with a random card, each with streams if the card is accepted */
-    DAMAGED_CARDS = 20,     /* rounds in which every byte of a card is changed, and it is cut and extended everywhere */
+    RANDOM_CARDS = 8000,    /* rounds with a random card, each with streams if the card is accepted */
+    STATED_CARDS = 700,     /* rounds with a card that states a default, in each way as often */
+    PAIRS = 1000,           /* rounds with two cards, equal or not */
+    DAMAGED_CARDS = 24,     /* rounds in which every byte of a card is changed, and it is cut and extended everywhere */
     MOST_ROOM = MOST_FRAMES + 64
 };
 
@@ -55,9 +57,21 @@ static struct {
 
 /* The accepted cards that were written out, and those among them on which a writer is most likely to go wrong. */
 static struct {
-    long cards, k_stated, n_stated, both_stated, zero_generator, zero_check_mask, k_above_1, p_above_1;
+    long cards, zero_generator, zero_check_mask, k_above_1, p_above_1, k_and_n_default;
     size_t longest;
 } written;
+
+/* The cards made to state a default or to come near to it; random ones that are refused and were cards before document
+ * 02's R-4; and how many of both were rewritten. */
+static struct {
+    long ways[WAYS_OF_STATING];
+    long random, rewritten;
+} stating;
+
+/* Pairs of accepted cards. */
+static struct {
+    long equal, unequal, order_alone; /* of the unequal, by the order of checks alone */
+} pairs;
 
 static struct arena card_arena, input_arena, output_arena;
 static uint8_t *expected; /* the output as the reference leaves it */
@@ -331,71 +345,85 @@ static void stream(struct random *r, const struct fields *fields, const uint8_t 
 
 /* ---- Cards written out ---- */
 
-static void count_written(const struct fields *fields, const uint8_t *card, size_t count)
+static void count_written(const struct fields *fields, size_t length)
 {
-    int k_stated = states_default_k(card), n_stated = states_default_n(card);
     written.cards++;
-    written.k_stated += k_stated;
-    written.n_stated += n_stated;
-    written.both_stated += k_stated && n_stated;
     written.zero_generator += has_zero_generator(fields);
     written.zero_check_mask += has_zero_check_mask(fields);
     written.k_above_1 += fields->k > 1;
     written.p_above_1 += fields->p > 1;
-    if (count > written.longest)
-        written.longest = count;
+    written.k_and_n_default += fields->k == 1 && fields->n == 2;
+    if (length > written.longest)
+        written.longest = length;
 }
 
-/* An accepted card written into so much room: `bytes` come out, or 13. */
-static void write_into(struct random *r, size_t room, const uint8_t *card, size_t length, const uint8_t *bytes,
-                       size_t count)
+/* An accepted card written into so much room: its own bytes come out, or 13. */
+static void write_into(struct random *r, size_t room, const uint8_t *card, size_t length)
 {
     int32_t answer = call_write(r, card, length, room);
-    if (answer != (room < count ? -13 : (int32_t)count))
-        fail("room for %zu of %zu bytes, and the answer is %d", room, count, (int)answer);
-    if (answer > 0 && memcmp(expected, bytes, count) != 0)
-        fail("what is written is not the card without the defaults that it states");
+    if (answer != (room < length ? -13 : (int32_t)length))
+        fail("room for %zu of %zu bytes, and the answer is %d", room, length, (int)answer);
+    if (answer > 0 && memcmp(expected, card, length) != 0)
+        fail("an accepted card is not written as it stands");
 }
 
-/* One burst by a card and by its written form: the same answer and the same frames. */
-static void same_burst(struct random *r, enum direction direction, const struct fields *fields, const uint8_t *card,
-                       size_t length, const uint8_t *bytes, size_t count)
-{
-    uint8_t frames[120], given[120 + MOST_MEMORY];
-    size_t input = (size_t)length_around(r, fields->m), room = input + MOST_MEMORY;
-    random_frames(r, direction == SEND ? fields->k : fields->n, frames, (long)input);
-    int32_t answer = call(r, direction, card, length, frames, input, room);
-    if (answer < 0)
-        fail("a good burst is answered by %d", (int)answer);
-    memcpy(given, expected, (size_t)answer);
-    if (call(r, direction, bytes, count, frames, input, room) != answer || memcmp(given, expected, (size_t)answer) != 0)
-        fail("by the card that was written, the burst is another than by the card that was read");
-}
-
-/* The written form of a card is the same card: to the reference's reader, when it is written again, and in use. */
-static void come_back(struct random *r, const struct fields *fields, const uint8_t *card, size_t length,
-                      const uint8_t *bytes, size_t count)
-{
-    struct fields again;
-    if (reference_read_card(bytes, count, &again).refusal || memcmp(&again, fields, sizeof again) != 0)
-        fail("the written form is another card");
-    write_into(r, MOST_CARD_BYTES, bytes, count, bytes, count);
-    same_burst(r, SEND, fields, card, length, bytes, count);
-    same_burst(r, RECEIVE, fields, card, length, bytes, count);
-}
-
-/* An accepted card goes out and comes back. What must go out is known from its bytes alone, whatever the reference
- * writes: the stated defaults cut out of them, and so the bytes themselves, if no default is stated. */
+/* An accepted card goes out as it stands: what must go out is known from its bytes, whatever the reference writes. */
 static void write_out(struct random *r, const struct fields *fields, const uint8_t *card, size_t length)
 {
-    uint8_t bytes[MOST_CARD_BYTES];
-    size_t count = without_defaults(card, length, bytes);
-    size_t rooms[] = {1, count - 1, count, count + 1, count + (size_t)below(r, MOST_CARD_BYTES)};
+    size_t rooms[] = {1, length - 1, length, length + 1, length + (size_t)below(r, MOST_CARD_BYTES)};
+    if (states_default_k(card) || states_default_n(card))
+        fail("a card that states a default was accepted");
     for (size_t room = 0; room < sizeof rooms / sizeof *rooms; room++)
-        write_into(r, rooms[room], card, length, bytes, count);
-    if (count < length)
-        come_back(r, fields, card, length, bytes, count);
-    count_written(fields, card, count);
+        write_into(r, rooms[room], card, length);
+    count_written(fields, length);
+}
+
+/* ---- Cards that state a default ---- */
+
+/* A card's bytes, refused with this number by every call, or accepted for 0; the place is the reference's alone. */
+static void expect_bytes(struct random *r, const uint8_t *card, size_t length, int refusal, size_t offset)
+{
+    struct fields fields;
+    struct card_answer answer = reference_read_card(card, length, &fields);
+    accepted(r, card, length);
+    if (answer.refusal != refusal || (refusal && answer.offset != offset))
+        fail("the card is refused by %d at %zu, and not by %d at %zu", answer.refusal, answer.offset, refusal, offset);
+}
+
+/* A card as it was stored before R-4 is refused as it is. Rewritten it is an accepted card, and the one that it was. What
+ * rewriting must give is known from the bytes: those that are left when the stated defaults are cut out. */
+static void rewrite_stored(struct random *r, const uint8_t *card, size_t length)
+{
+    struct fields before, after;
+    uint8_t bytes[MOST_CARD_BYTES], left[MOST_CARD_BYTES];
+    size_t count = reference_rewrite(card, length, bytes);
+    if (count != without_defaults(card, length, left) || memcmp(bytes, left, count) != 0)
+        fail("what is rewritten is not the card without the defaults that it states");
+    if (reference_read_card_under(FORMER, card, length, &before).refusal || !accepted(r, bytes, count))
+        fail("a stored card is refused, or what is rewritten of it");
+    if (reference_read_card(bytes, count, &after).refusal || memcmp(&before, &after, sizeof before) != 0)
+        fail("what is rewritten is another card");
+    write_out(r, &after, bytes, count);
+    stream(r, &after, bytes, count);
+    stating.rewritten++;
+}
+
+/* ---- Pairs of cards ---- */
+
+/* Two accepted cards have equal bytes exactly if they have equal fields, the order of checks included. */
+static void compare_pair(const uint8_t *one, size_t one_length, const uint8_t *other, size_t other_length)
+{
+    struct fields of_one, of_other;
+    if (reference_read_card(one, one_length, &of_one).refusal || reference_read_card(other, other_length, &of_other).refusal)
+        fail("the reference refuses a card that it accepted");
+    int equal = one_length == other_length && memcmp(one, other, one_length) == 0;
+    if (equal != (memcmp(&of_one, &of_other, sizeof of_one) == 0)) {
+        print_hexadecimal("one card", one, one_length);
+        print_hexadecimal("another", other, other_length);
+        fail(equal ? "equal bytes are two cards" : "two cards have other bytes and equal fields");
+    }
+    pairs.equal += equal;
+    pairs.unequal += !equal;
 }
 
 /* ---- Rounds ---- */
@@ -426,6 +454,16 @@ static size_t damage_bytes(struct random *r, uint8_t *card, size_t length)
     }
 }
 
+/* A refused card, if it is one that was accepted before R-4. */
+static void random_card_stored(struct random *r, const uint8_t *card, size_t length)
+{
+    struct fields fields;
+    if (reference_read_card_under(FORMER, card, length, &fields).refusal)
+        return;
+    stating.random++;
+    rewrite_stored(r, card, length);
+}
+
 static void random_card_round(struct random *r)
 {
     struct fields fields;
@@ -434,12 +472,15 @@ static void random_card_round(struct random *r)
     int kind = below(r, 10);
     if (kind == 0 || kind == 1)
         spoil_card(r, &fields);
-    size_t length = card_bytes(&fields, one_in(r, 3), one_in(r, 3), card);
+    int state = one_in(r, 10) ? between(r, 1, 3) : 0; /* the default k, the default n, or both, if they are */
+    size_t length = card_bytes(&fields, state % 2, state / 2, card);
     if (kind == 2 || kind == 3)
         length = damage_bytes(r, card, length);
     any_frames(r, &fields, card, length); /* the card's refusals come before the burst's */
-    if (!accepted(r, card, length))
+    if (!accepted(r, card, length)) {
+        random_card_stored(r, card, length);
         return;
+    }
     if (reference_read_card(card, length, &fields).refusal)
         fail("the reference refuses a card that it accepted");
     write_out(r, &fields, card, length);
@@ -447,14 +488,50 @@ static void random_card_round(struct random *r)
     any_frames(r, &fields, card, length);
 }
 
-/* A card that is changed; if it is still one, it is written out, and a stream is sent by it. */
-static void changed_card(struct random *r, const uint8_t *card, size_t length)
+/* A card that states a default, or comes near to it, is refused as it must be, and before anything in a burst is. */
+static void stated_card_round(struct random *r, enum stated way)
 {
     struct fields fields;
-    if (accepted(r, card, length) && reference_read_card(card, length, &fields).refusal == 0) {
-        write_out(r, &fields, card, length);
-        stream(r, &fields, card, length);
-    }
+    struct stated_card stated;
+    random_stated_card(r, way, &fields, &stated);
+    expect_bytes(r, stated.bytes, stated.length, stated.answer.refusal, stated.answer.offset);
+    any_frames(r, &fields, stated.bytes, stated.length);
+    if (way == K_STATED || way == N_STATED || way == BOTH_STATED)
+        rewrite_stored(r, stated.bytes, stated.length);
+    stating.ways[way]++;
+}
+
+/* A card, and another that is made by changing some of its fields, or none and by being stored and rewritten. */
+static void pair_round(struct random *r)
+{
+    struct fields fields;
+    uint8_t one[MOST_CARD_BYTES], stored[MOST_CARD_BYTES + 2], other[MOST_CARD_BYTES];
+    random_card(r, &fields);
+    size_t one_length = card_bytes(&fields, 0, 0, one);
+    int changes = below(r, 3), order = 0;
+    for (int change = 0; change < changes; change++)
+        order = vary_card(r, &fields);
+    size_t stored_length = card_bytes(&fields, one_in(r, 2), one_in(r, 2), stored);
+    size_t other_length = reference_rewrite(stored, stored_length, other);
+    if (!accepted(r, one, one_length) || !accepted(r, other, other_length))
+        fail("a card of a pair is refused");
+    write_into(r, MOST_CARD_BYTES, one, one_length);
+    write_into(r, MOST_CARD_BYTES, other, other_length);
+    compare_pair(one, one_length, other, other_length);
+    pairs.order_alone += changes == 1 && order;
+}
+
+/* A card that is changed; if it is still one, it is another than before; it is written out, and a stream sent by it. */
+static void changed_card(struct random *r, const uint8_t *before, size_t before_length, const uint8_t *card,
+                         size_t length)
+{
+    struct fields fields, former_fields;
+    if (!accepted(r, card, length) || reference_read_card(card, length, &fields).refusal)
+        return;
+    if (reference_read_card(before, before_length, &former_fields).refusal == 0)
+        compare_pair(before, before_length, card, length);
+    write_out(r, &fields, card, length);
+    stream(r, &fields, card, length);
 }
 
 /* Every byte of the card changed in several ways, the card cut everywhere, and extended. */
@@ -465,29 +542,31 @@ static void damage_everywhere(struct random *r, const uint8_t *card, size_t leng
         for (int change = 1; change < 256; change += every_value ? 1 : change) {
             memcpy(changed, card, length);
             changed[at] = (uint8_t)(changed[at] ^ change);
-            changed_card(r, changed, length);
+            changed_card(r, card, length, changed, length);
         }
-        changed_card(r, card, at);
+        changed_card(r, card, length, card, at);
     }
     memcpy(changed, card, length);
     for (size_t extended = length + 1; extended <= length + 6; extended++) {
         changed[extended - 1] = one_in(r, 2) ? 0 : (uint8_t)random_word(r);
-        changed_card(r, changed, extended);
+        changed_card(r, card, length, changed, extended);
     }
 }
 
+/* The bench's cards, as they are and with their defaults stated, and others. */
 static void damaged_card_round(struct random *r, int turn)
 {
     struct fields fields;
     uint8_t card[MOST_CARD_BYTES];
-    if (turn < 4) {
-        bench_card("PQRT"[turn], &fields);
+    int state = turn >= 4 && turn < 8;
+    if (turn < 8) {
+        bench_card("PQRT"[turn % 4], &fields);
     } else {
         int k = between(r, 1, MOST_INFORMATION);
         random_card_of_shape(r, k, between(r, k + 1, MOST_STREAMS), below(r, 32), between(r, 2, 6), 3, &fields);
     }
-    size_t length = card_bytes(&fields, one_in(r, 2), one_in(r, 2), card);
-    damage_everywhere(r, card, length, turn < 4);
+    size_t length = card_bytes(&fields, state, state, card);
+    damage_everywhere(r, card, length, turn < 8);
 }
 
 /* An accepted card with the most checks that a stream can have. */
@@ -536,7 +615,8 @@ static void longest_card_round(struct random *r)
     stream(r, &fields, card, length);
     for (int faults = 0; faults < 100; faults++) {
         memcpy(changed, card, length);
-        changed_card(r, changed, damage_bytes(r, changed, length));
+        size_t changed_length = damage_bytes(r, changed, length);
+        changed_card(r, card, length, changed, changed_length);
     }
 }
 
@@ -587,15 +667,6 @@ static void expect_card(struct random *r, const struct fields *fields, int refus
         fail("the bench's card is answered by %d", (int)given);
 }
 
-static void expect_bytes(struct random *r, const uint8_t *card, size_t length, int refusal, size_t offset)
-{
-    struct fields fields;
-    struct card_answer answer = reference_read_card(card, length, &fields);
-    int32_t given = call(r, RECEIVE, card, length, NULL, 0, 0);
-    if (answer.refusal != refusal || answer.offset != offset || given != -refusal)
-        fail("the bench's card is refused by %d at %zu", answer.refusal, answer.offset);
-}
-
 static void bench_bursts(struct random *r)
 {
     struct fields P, Q;
@@ -643,30 +714,42 @@ static void bench_cards(struct random *r)
     expect_card(r, &fields, 7);
 }
 
-/* P with k stated as 1, with n stated as 2, and with both: each is written as P. */
-static void written_as_P(struct random *r)
+/* P with k stated as 1, with n stated as 2, and with both: refused, and rewritten as P. Then cards that end in or just
+ * after a stated default, or have n out of its range after it; and n stated as 2 where it isn't in range. */
+static void bench_stated(struct random *r)
 {
-    static const uint8_t k_stated[] = {1, 7, 1, 1, 1, 0, 3, 0, 0, 0, 2, 1, 1, 0, 0, 0, 1, 2, 0, 0, 0};
-    static const uint8_t n_stated[] = {2, 7, 2, 1, 1, 0, 3, 0, 0, 0, 2, 1, 1, 0, 0, 0, 1, 2, 0, 0, 0};
-    static const uint8_t both_stated[] = {3, 7, 1, 2, 1, 1, 0, 3, 0, 0, 0, 2, 1, 1, 0, 0, 0, 1, 2, 0, 0, 0};
-    write_into(r, 20, bytes_of_P, 20, bytes_of_P, 20);
-    write_into(r, 20, k_stated, sizeof k_stated, bytes_of_P, 20);
-    write_into(r, 20, n_stated, sizeof n_stated, bytes_of_P, 20);
-    write_into(r, 20, both_stated, sizeof both_stated, bytes_of_P, 20);
+    static const uint8_t stored[3][22] = {{1, 7, 1, 1, 1, 0, 3, 0, 0, 0, 2, 1, 1, 0, 0, 0, 1, 2, 0, 0, 0},
+                                          {2, 7, 2, 1, 1, 0, 3, 0, 0, 0, 2, 1, 1, 0, 0, 0, 1, 2, 0, 0, 0},
+                                          {3, 7, 1, 2, 1, 1, 0, 3, 0, 0, 0, 2, 1, 1, 0, 0, 0, 1, 2, 0, 0, 0}};
+    uint8_t bytes[MOST_CARD_BYTES];
+    for (int turn = 0; turn < 3; turn++) {
+        size_t length = turn == 2 ? 22 : 21;
+        expect_bytes(r, stored[turn], length, 18, 2);
+        rewrite_stored(r, stored[turn], length);
+        if (reference_rewrite(stored[turn], length, bytes) != 20 || memcmp(bytes, bytes_of_P, 20) != 0)
+            fail("a stored P is not rewritten as P");
+        expect_bytes(r, stored[turn], 2, 1, 2);
+        expect_bytes(r, stored[turn], 3, 18, 2);
+    }
+    for (int n = 0; n < 256; n++) {
+        const uint8_t under_1[] = {3, 7, 1, (uint8_t)n}, under_2[] = {3, 10, 2, (uint8_t)n};
+        int in_range = n >= 3 && n <= 8;
+        expect_bytes(r, under_1, 4, 18, 2);
+        expect_bytes(r, under_2, 4, in_range ? 1 : 3, in_range ? 4 : 3);
+    }
 }
 
-/* The bench's cards, their defaults stated or not, written into every room from none to more than enough. */
+/* The bench's cards, written into every room from none to more than enough. */
 static void bench_written(struct random *r)
 {
     struct fields fields;
-    uint8_t card[MOST_CARD_BYTES], bytes[MOST_CARD_BYTES];
-    for (int turn = 0; turn < 16; turn++) {
-        bench_card("PQRT"[turn % 4], &fields);
-        size_t length = card_bytes(&fields, turn / 4 % 2, turn / 8, card);
-        size_t count = card_bytes(&fields, 0, 0, bytes);
+    uint8_t card[MOST_CARD_BYTES];
+    for (int turn = 0; turn < 4; turn++) {
+        bench_card("PQRT"[turn], &fields);
+        size_t length = card_bytes(&fields, 0, 0, card);
         write_out(r, &fields, card, length);
         for (size_t room = 0; room <= length + 3; room++)
-            write_into(r, room, card, length, bytes, count);
+            write_into(r, room, card, length);
     }
 }
 
@@ -693,7 +776,7 @@ static void bench_round(struct random *r)
 {
     bench_bursts(r);
     bench_cards(r);
-    written_as_P(r);
+    bench_stated(r);
     bench_written(r);
     null_pointers();
 }
@@ -709,6 +792,12 @@ static int run_round(long round)
     if (turn < RANDOM_CARDS)
         return random_card_round(&r), 1;
     turn -= RANDOM_CARDS;
+    if (turn < STATED_CARDS)
+        return stated_card_round(&r, (enum stated)(turn % WAYS_OF_STATING)), 1;
+    turn -= STATED_CARDS;
+    if (turn < PAIRS)
+        return pair_round(&r), 1;
+    turn -= PAIRS;
     if (turn < DAMAGED_CARDS)
         return damaged_card_round(&r, (int)turn), 1;
     turn -= DAMAGED_CARDS;
@@ -736,22 +825,37 @@ static void print_refused(const char *what, const struct calls *calls)
 
 static void print_written(void)
 {
-    printf("%ld cards written out, the longest of %zu bytes: %ld stated k as 1, %ld n as 2, %ld both\n", written.cards,
-           written.longest, written.k_stated, written.n_stated, written.both_stated);
-    printf("of these %ld had a zero generator, %ld a zero mask in a check, %ld k above 1, %ld p above 1\n",
-           written.zero_generator, written.zero_check_mask, written.k_above_1, written.p_above_1);
+    printf("%ld cards written out, the longest of %zu bytes; of these %ld had a zero generator, %ld a zero mask in a check, "
+           "%ld k above 1, %ld p above 1, %ld k 1 and n 2\n",
+           written.cards, written.longest, written.zero_generator, written.zero_check_mask, written.k_above_1,
+           written.p_above_1, written.k_and_n_default);
+}
+
+static void print_stating(void)
+{
+    static const char *const ways[WAYS_OF_STATING] = {
+        "k as 1", "n as 2", "both", "k, and n is cut off", "k, and n is out of range", "nothing yet, and cut off there",
+        "n as 2, where it is out of range"};
+    printf("cards made to state");
+    for (int way = 0; way < WAYS_OF_STATING; way++)
+        printf("%s %s: %ld", way == 0 ? "" : ";", ways[way], stating.ways[way]);
+    printf("; %ld random ones stated a default; %ld rewritten\n", stating.random, stating.rewritten);
+    printf("pairs of accepted cards: %ld equal, %ld not, %ld of them by the order of checks alone\n", pairs.equal,
+           pairs.unequal, pairs.order_alone);
 }
 
 static void print_counts(void)
 {
     printf("%ld bursts, %ld calls of card_write; %ld cards, %ld of them accepted; refused:", counts.bursts.made,
            counts.writes.made, counts.cards, counts.cards_accepted);
-    for (int number = 1; number <= 10; number++)
-        printf(" %d: %ld", number, counts.cards_refused[number]);
+    for (int number = 1; number <= HIGHEST_REFUSAL; number++)
+        if (refuses_cards(number))
+            printf(" %d: %ld", number, counts.cards_refused[number]);
     printf("\n");
     print_refused("bursts", &counts.bursts);
     print_refused("card_write", &counts.writes);
     print_written();
+    print_stating();
     printf("%ld streams: %ld without a wrong digit, %ld corrected, %ld beyond (%ld with wrong digits had to come out as sent)\n",
            counts.streams, counts.clean, counts.corrected, counts.beyond, counts.correctable);
     printf("%ld of the streams received by the second circuit too, %ld of them beyond the correctable number\n",
@@ -761,20 +865,28 @@ static void print_counts(void)
 /* Whether a burst can meet the refusal, and whether card_write can. The others are for sessions. */
 static int met_by_bursts(int number)
 {
-    return (number >= 1 && number <= 11) || number == 13 || number == 15;
+    return refuses_cards(number) || number == 11 || number == 13 || number == 15;
 }
 
 static int met_by_card_write(int number)
 {
-    return (number >= 1 && number <= 10) || number == 13;
+    return refuses_cards(number) || number == 13;
 }
 
-/* Few cards state a default, and fewer state both: a change to the card maker must not lose them. */
 static int wrote_enough(void)
 {
-    return written.cards >= 5000 && written.longest == MOST_CARD_BYTES && written.k_stated >= 500 &&
-           written.n_stated >= 100 && written.both_stated >= 50 && written.zero_generator >= 500 &&
-           written.zero_check_mask >= 500 && written.k_above_1 >= 500 && written.p_above_1 >= 500;
+    return written.cards >= 5000 && written.longest == MOST_CARD_BYTES && written.zero_generator >= 500 &&
+           written.zero_check_mask >= 500 && written.k_above_1 >= 500 && written.p_above_1 >= 500 &&
+           written.k_and_n_default >= 500;
+}
+
+/* Few random cards state a default, and fewer pairs are equal: a change to the card maker must not lose them. */
+static int stated_enough(void)
+{
+    int enough = stating.random >= 100 && stating.rewritten >= 300 && counts.cards_refused[18] >= 1000;
+    for (int way = 0; way < WAYS_OF_STATING; way++)
+        enough = enough && stating.ways[way] >= STATED_CARDS / WAYS_OF_STATING;
+    return enough && pairs.equal >= 100 && pairs.unequal >= 1000 && pairs.order_alone >= 50;
 }
 
 /* Up to the correctable number both circuits must give what was sent, so most streams are to be beyond it. */
@@ -787,7 +899,7 @@ static int second_tried_enough(void)
 static int tried_enough(void)
 {
     int enough = 1;
-    for (int number = 1; number <= 15; number++)
+    for (int number = 1; number <= HIGHEST_REFUSAL; number++)
         if ((met_by_bursts(number) && counts.bursts.refused[number] == 0) ||
             (met_by_card_write(number) && counts.writes.refused[number] == 0)) {
             printf("FAILED: refusal %d never occurred\n", number);
@@ -795,6 +907,10 @@ static int tried_enough(void)
         }
     if (!wrote_enough()) {
         printf("FAILED: too few cards written, or too few of a kind\n");
+        enough = 0;
+    }
+    if (!stated_enough()) {
+        printf("FAILED: too few cards that state a default, or too few pairs\n");
         enough = 0;
     }
     if (!second_tried_enough()) {

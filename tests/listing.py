@@ -3,15 +3,11 @@
     python3 tests/listing.py PROGRAM
 """
 import os
-import pathlib
 import random
-import subprocess
 import sys
-import threading
 
-SAMPLES = pathlib.Path(__file__).resolve().parent.parent / "samples"
 sys.dont_write_bytecode = True
-sys.path.insert(0, str(SAMPLES))
+from running import SAMPLES, at_once, by_the_byte, run
 from reference import P, T, Card, framed, listing
 
 LONGEST_CARD = 2048
@@ -50,48 +46,15 @@ def inputs():
         "card P, and 32,768 frames, the last one with a digit too many": framed(P.bytes(), frames(P, MOST_FRAMES - 1) + [4]),
         "card P, and 32,769 frames, the first one with a digit too many": framed(P.bytes(), [4] + frames(P, MOST_FRAMES)),
     }
+    for name, stated in {"k stated as 1": (True, False), "n stated as 2": (False, True), "both stated": (True, True)}.items():
+        given[f"card P with {name}, and a frame with a digit too many"] = framed(P.bytes(*stated), [4])
+        given[f"card P with {name}, the card cut after four bytes"] = framed(P.bytes(*stated), [])[:6]
+        given[f"card P with {name}, the card cut after three bytes"] = framed(P.bytes(*stated), [])[:5]
+    given["card T with n stated as 2"] = framed(T.bytes()[:3] + b"\2" + T.bytes()[4:], [])
     for name, card in {"card P": P, "card T": T, "four streams, no memory": WIDE, "memory 31": LONG}.items():
         given[name + ", and 32,768 frames"] = framed(card.bytes(), frames(card, MOST_FRAMES))
     assert [len(given[name]) for name in given if "2,048, and 32," in name] == [34818, 34819]
     return given
-
-
-def at_once(given):
-    """A file of the input."""
-    descriptor = os.memfd_create("input")
-    os.write(descriptor, given)
-    os.lseek(descriptor, 0, os.SEEK_SET)
-    return descriptor
-
-
-def by_the_byte(given):
-    """A pipe that gives the input a byte at a time: in packet mode a read gets what one write gave, and no more."""
-    reading, writing = os.pipe2(os.O_DIRECT | os.O_CLOEXEC)
-
-    def feed():
-        try:
-            for byte in given:
-                os.write(writing, bytes([byte]))
-        except BrokenPipeError:
-            pass  # not all of it is read
-        os.close(writing)
-
-    threading.Thread(target=feed, daemon=True).start()
-    return reading
-
-
-def run(program, stdin, stdout=subprocess.PIPE):
-    """What the program wrote, and what it said on standard error. Its input is closed afterwards."""
-    try:
-        ended = subprocess.run([program], stdin=stdin, stdout=stdout, stderr=subprocess.PIPE, timeout=60)
-    except subprocess.TimeoutExpired:
-        return b"", b"(it did not end)"
-    finally:
-        os.close(stdin)
-    wrote = ended.stdout or b""
-    if ended.returncode != 0:
-        return wrote, f"(it ended with status {ended.returncode})".encode()
-    return wrote, ended.stderr
 
 
 def difference(wrote, wanted):

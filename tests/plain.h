@@ -15,7 +15,7 @@ struct plain_card {
     uint32_t checks[4][16][7];
 };
 
-/* 0, or the number of the refusal, 1 to 10, and its byte offset. A refused card is not to be used. */
+/* 0, or the number of the refusal, 1 to 10 or 18, and its byte offset. A refused card is not to be used. */
 int plain_read(const uint8_t *bytes, size_t length, struct plain_card *card, size_t *offset);
 
 /* As burst_send and burst_receive, for an output that is long enough; -1 for a digit beyond the frame's streams. */

@@ -41,6 +41,15 @@ static inline int read_mask(struct reading *r, int m, uint32_t *mask)
     return 0;
 }
 
+/* A field that is left out if it is the default. */
+static int read_stated(struct reading *r, int low, int high, int number, int by_default, int *value)
+{
+    int refused = read_byte(r, low, high, number, value);
+    if (refused)
+        return refused;
+    return *value == by_default ? refuse_at(r, r->at - 1, BURST_DEFAULT_STATED) : 0;
+}
+
 static int read_sizes(struct reading *r, struct plain_card *card)
 {
     int map, n = 2, refused;
@@ -49,9 +58,9 @@ static int read_sizes(struct reading *r, struct plain_card *card)
         return refused;
     if ((refused = read_byte(r, 0, 255, 0, &card->number))) /* every number is good, but it may be cut off */
         return refused;
-    if (map & 1 && (refused = read_byte(r, 1, BURST_MOST_INFORMATION_STREAMS, BURST_K_OUT_OF_RANGE, &card->k)))
+    if (map & 1 && (refused = read_stated(r, 1, BURST_MOST_INFORMATION_STREAMS, BURST_K_OUT_OF_RANGE, 1, &card->k)))
         return refused;
-    if (map & 2 && (refused = read_byte(r, card->k + 1, BURST_MOST_STREAMS, BURST_N_OUT_OF_RANGE, &n)))
+    if (map & 2 && (refused = read_stated(r, card->k + 1, BURST_MOST_STREAMS, BURST_N_OUT_OF_RANGE, 2, &n)))
         return refused;
     if (n <= card->k) /* only if n doesn't stand */
         return refuse_at(r, 0, BURST_N_OUT_OF_RANGE);

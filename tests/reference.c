@@ -17,6 +17,7 @@ static int digit_of(uint32_t number, int a)
 
 /* Reading runs front to back: the place reached, and the first fault met. */
 struct reader {
+    enum rule rule;
     const uint8_t *bytes;
     size_t length, at;
     struct card_answer fault;
@@ -56,6 +57,19 @@ static int read_field(struct reader *r, int low, int high, int refusal, int *val
         return STOP;
     *value = (int)byte;
     return *value < low || *value > high ? refuse(r, refusal, start) : GO_ON;
+}
+
+/* A field that is left out if it has its default. If it stands it is read, and only then is it told (document 02, R-4)
+ * that it should have been left out. */
+static int read_unless_default(struct reader *r, int stands, int low, int high, int refusal, int by_default, int *value)
+{
+    size_t start = r->at;
+    *value = by_default;
+    if (!stands)
+        return GO_ON;
+    if (!read_field(r, low, high, refusal, value))
+        return STOP;
+    return r->rule == PRESENT && *value == by_default ? refuse(r, 18, start) : GO_ON;
 }
 
 /* A map of `size` bytes over `streams` places: a digit for each place, and none set beyond them. */
@@ -101,16 +115,12 @@ static int read_sizes(struct reader *r, struct fields *card)
         return STOP;
     if (!read_field(r, 0, 255, 0, &card->number))
         return STOP;
-    card->k = 1;
-    if (stands[0] && !read_field(r, 1, 4, 2, &card->k))
+    if (!read_unless_default(r, stands[0], 1, 4, 2, 1, &card->k))
         return STOP;
-    card->n = 2;
-    if (stands[1]) {
-        if (!read_field(r, card->k + 1, 8, 3, &card->n))
-            return STOP;
-    } else if (card->n < card->k + 1) {
+    if (!read_unless_default(r, stands[1], card->k + 1, 8, 3, 2, &card->n))
+        return STOP;
+    if (card->n < card->k + 1) /* which is so only if it doesn't stand */
         return refuse(r, 3, 0);
-    }
     card->p = card->n - card->k;
     return read_field(r, 0, 31, 4, &card->m);
 }
@@ -168,13 +178,18 @@ static int read_checks(struct reader *r, struct fields *card)
     return GO_ON;
 }
 
-struct card_answer reference_read_card(const uint8_t *bytes, size_t length, struct fields *card)
+struct card_answer reference_read_card_under(enum rule rule, const uint8_t *bytes, size_t length, struct fields *card)
 {
-    struct reader r = {bytes, length, 0, {0, 0}};
+    struct reader r = {rule, bytes, length, 0, {0, 0}};
     memset(card, 0, sizeof *card);
     if (read_sizes(&r, card) && read_generators(&r, card) && read_checks(&r, card) && r.at < length)
         refuse(&r, 10, r.at);
     return r.fault;
+}
+
+struct card_answer reference_read_card(const uint8_t *bytes, size_t length, struct fields *card)
+{
+    return reference_read_card_under(PRESENT, bytes, length, card);
 }
 
 /* ---- The written form of a card (document 02, R-1) ---- */
@@ -250,21 +265,43 @@ static void write_checks(struct writer *w, const struct fields *card, int i)
     }
 }
 
+static struct writer written_form(const struct fields *card)
+{
+    struct writer w = {.count = 0};
+    write_sizes(&w, card);
+    write_generators(&w, card);
+    for (int i = 1; i <= card->k; i++)
+        write_checks(&w, card, i);
+    return w;
+}
+
+/* Since R-4 an accepted card is written as it stands: here by taking it apart and writing its fields, all the same. */
 int32_t reference_card_write(const uint8_t *card_bytes, size_t card_length, uint8_t *output, size_t output_length)
 {
     struct fields card;
-    struct writer w = {.count = 0};
     int refusal = reference_read_card(card_bytes, card_length, &card).refusal;
     if (refusal)
         return -refusal;
-    write_sizes(&w, &card);
-    write_generators(&w, &card);
-    for (int i = 1; i <= card.k; i++)
-        write_checks(&w, &card, i);
+    struct writer w = written_form(&card);
     if (output_length < w.count)
         return -13;
     memcpy(output, w.bytes, w.count);
     return (int32_t)w.count;
+}
+
+/* ---- Stored cards rewritten (document 02, R-4) ---- */
+
+size_t reference_rewrite(const uint8_t *input, size_t length, uint8_t *output)
+{
+    struct fields card;
+    if (length > MOST_STORED_BYTES)
+        return (size_t)sprintf((char *)output, "input too long\n");
+    struct card_answer answer = reference_read_card_under(FORMER, input, length, &card);
+    if (answer.refusal)
+        return (size_t)sprintf((char *)output, "refused %d at %zu\n", answer.refusal, answer.offset);
+    struct writer w = written_form(&card);
+    memcpy(output, w.bytes, w.count);
+    return w.count;
 }
 
 /* ---- The code and its checks ("The code", "Checks") ---- */

@@ -4,7 +4,9 @@
  * form of a card (document 02, R-1) was added later, by an author who had seen the library's. The second
  * circuit (document 02, R-2) was added by an author who had not seen the library's, from that document's
  * sentence and the report's section 4.1 b. That a digit enters a check once for each of its pairs, and that the
- * session has the first one's calls and refusals, the author was told, so there it is no second reading.
+ * session has the first one's calls and refusals, the author was told, so there it is no second reading. Refusal 18
+ * and the rewriting of stored cards (document 02, R-4) were added by an author who had not looked at the library's
+ * code, from that document's paragraph. The order of 18 among a card's other refusals the author was told as well.
  *
  * It is made to be read, not to be fast. A digit is an int that is 0 or 1, a sum of digits is a
  * sum with one `% 2` at its end, and a stream keeps every frame from time 0 on: no masks, no
@@ -23,6 +25,7 @@ enum {
     MOST_MEMORY = 31,     /* m */
     MOST_CHECKS = 16,     /* J */
     MOST_CARD_BYTES = 1163,
+    MOST_STORED_BYTES = 2048, /* of a card to be rewritten */
     MOST_FRAMES = 1048576
 };
 
@@ -52,10 +55,20 @@ struct touched {
     int error[MOST_MEMORY + 1][MOST_STREAMS + 1];
 };
 
+/* Under which rule a card is read. Before document 02's R-4 it could state k as 1 and n as 2, their defaults; from
+ * then on that is refused with 18. */
+enum rule { FORMER, PRESENT };
+
+struct card_answer reference_read_card_under(enum rule rule, const uint8_t *bytes, size_t length, struct fields *card);
+
+/* Under the present rule. */
 struct card_answer reference_read_card(const uint8_t *bytes, size_t length, struct fields *card);
 
 /* The card that the bytes state in its written form, called as the library's card_write is. */
 int32_t reference_card_write(const uint8_t *card, size_t card_length, uint8_t *output, size_t output_length);
+
+/* What the program `rewrite` writes for its input, a card or a line of text: at most MOST_CARD_BYTES. Gives the count. */
+size_t reference_rewrite(const uint8_t *input, size_t length, uint8_t *output);
 
 struct touched reference_touched(const struct fields *card, int i, int q);
 

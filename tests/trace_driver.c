@@ -1,6 +1,7 @@
 /* Sets the program `trace`, and by it the sessions, against the reference: random cards with the offsets of their
- * refusals, random mixtures of bytes and readings, wrong numbers, refused calls in between, figures after every call,
- * sending past the tail, every kind of f32. What the program writes is compared byte by byte.
+ * refusals, cards that state a default among them, random mixtures of bytes and readings, wrong numbers, refused calls in
+ * between, figures after every call, sending past the tail, every kind of f32. What the program writes is compared
+ * byte by byte.
  *
  * The two receivers are also set against each other, without the reference: of the same calls by session 0 and by
  * session 1 the program must have written the same lines. Most of the streams for this are beyond the correctable number.
@@ -46,6 +47,13 @@ static struct {
 } shared;
 
 static struct trace_counts counts;
+
+/* The cards made to state a default or to come near to it; and of all those that were accepted before document 02's R-4
+ * and are refused now, for k and for n. */
+static struct {
+    long ways[WAYS_OF_STATING];
+    long default_k, default_n;
+} stating;
 
 /* What both receivers wrote alike, and of which streams. */
 static struct {
@@ -282,26 +290,56 @@ static void add_sending_past_the_tail(struct random *r, const struct fields *car
 
 /* ---- Traces ---- */
 
+/* The bytes of a card, accepted or not. Gives their count. */
+static size_t random_bytes(struct random *r, struct fields *card, uint8_t *bytes)
+{
+    random_card(r, card);
+    if (one_in(r, 5))
+        spoil_card(r, card);
+    int state = one_in(r, 12) ? between(r, 1, 3) : 0; /* the default k, the default n, or both, if they are */
+    size_t size = card_bytes(card, state % 2, state / 2, bytes);
+    if (one_in(r, 5)) /* often near the front, where the sizes are */
+        bytes[below(r, one_in(r, 3) ? 4 : (int)size)] = (uint8_t)random_word(r);
+    if (one_in(r, 12))
+        size = (size_t)below(r, (int)size);
+    if (one_in(r, 20))
+        bytes[size++] = (uint8_t)random_word(r);
+    return size;
+}
+
+/* The bytes of a card that states a default or comes near to it. Gives their count. */
+static size_t stated_bytes(struct random *r, struct fields *card, uint8_t *bytes)
+{
+    struct stated_card stated;
+    enum stated way = (enum stated)below(r, WAYS_OF_STATING);
+    random_stated_card(r, way, card, &stated);
+    memcpy(bytes, stated.bytes, stated.length);
+    stating.ways[way]++;
+    return stated.length;
+}
+
+static void count_stated(const uint8_t *bytes, size_t size)
+{
+    struct fields read;
+    if (reference_read_card_under(FORMER, bytes, size, &read).refusal == 0) {
+        stating.default_k += states_default_k(bytes);
+        stating.default_n += states_default_n(bytes);
+    }
+}
+
 /* A card, accepted or not. Gives whether it is; if so, the fields are those that its bytes have in the end. */
 static int add_card(struct random *r, struct fields *card)
 {
     struct fields read;
     uint8_t bytes[MOST_CARD_BYTES + 64];
-    random_card(r, card);
-    if (one_in(r, 5))
-        spoil_card(r, card);
-    size_t size = card_bytes(card, one_in(r, 3), one_in(r, 3), bytes);
-    if (one_in(r, 5))
-        bytes[below(r, (int)size)] = (uint8_t)random_word(r);
-    if (one_in(r, 12))
-        size = (size_t)below(r, (int)size);
-    if (one_in(r, 20))
-        bytes[size++] = (uint8_t)random_word(r);
+    size_t size = one_in(r, 12) ? stated_bytes(r, card, bytes) : random_bytes(r, card, bytes);
     size_t stated = one_in(r, 20) ? (size_t)below(r, 3000) : size;
     add_byte((int)(stated % 256));
     add_byte((int)(stated / 256));
     for (size_t b = 0; b < size; b++)
         add_byte(bytes[b]);
+    if (stated == size)
+        count_stated(bytes, size);
     int accepted = stated == size && reference_read_card(bytes, size, &read).refusal == 0;
     if (accepted)
         *card = read;
@@ -636,9 +674,10 @@ static void print_counts(long traces)
     printf("ended by `s` alone: %ld, by `s` with another X: %ld, by `f` in session 1: %ld\n", counts.cut_selections,
            counts.other_selections, counts.second_figures);
     printf("cards refused:");
-    for (int number = 1; number <= 10; number++)
-        printf(" %d: %ld", number, counts.cards_refused[number]);
-    printf("\n");
+    for (int number = 1; number <= HIGHEST_REFUSAL; number++)
+        if (refuses_cards(number))
+            printf(" %d: %ld", number, counts.cards_refused[number]);
+    printf("\nof stored cards that state k as 1: %ld, n as 2: %ld\n", stating.default_k, stating.default_n);
     print_answers("receiving session 0", &counts.received[0]);
     print_answers("receiving session 1", &counts.received[1]);
     print_answers("sending session", &counts.sent);
@@ -661,21 +700,31 @@ static int every_answer(void)
         const struct answer_counts *received = &counts.received[session];
         every = every && all_refused(received, met_by_receiving) && received->waiting > 0 && received->frames > 0;
     }
-    for (int number = 1; number <= 10; number++)
-        every = every && counts.cards_refused[number] > 0;
+    for (int number = 1; number <= HIGHEST_REFUSAL; number++)
+        every = every && (!refuses_cards(number) || counts.cards_refused[number] > 0);
     return every && counts.cut_selections > 0 && counts.other_selections > 0 && counts.second_figures > 0;
+}
+
+static int stated_enough(void)
+{
+    int enough = counts.cards_refused[18] >= 100 && stating.default_k >= 50 && stating.default_n >= 30;
+    for (int way = 0; way < WAYS_OF_STATING; way++)
+        enough = enough && stating.ways[way] >= 10;
+    return enough;
 }
 
 static int tried_enough(void)
 {
-    int every = every_answer();
+    int every = every_answer(), stated = stated_enough();
     int most_beyond = alike.streams >= 300 && 2 * alike.streams_beyond > alike.streams &&
                       2 * alike.stream_frames_beyond > alike.stream_frames;
     if (!every)
         printf("FAILED: some answer or end never occurred\n");
+    if (!stated)
+        printf("FAILED: too few cards that state a default, or too few in some way\n");
     if (!most_beyond)
         printf("FAILED: too few streams for both receivers, or not most of them beyond the correctable number\n");
-    return every && most_beyond;
+    return every && stated && most_beyond;
 }
 
 int main(int argc, char **argv)
