@@ -4,7 +4,7 @@
 -- Assumes nothing.
 use Prim.Native.Nat.{ℕ}
 use mathlib.Core.List.{List, [], _∷_, _++_}
-use lib.ListN.{length}
+use lib.ListN.{length, drop}
 
 -- a mask below 256 in its four bytes: "Integers are little-endian"
 abbrev pub mask : ℕ → List ℕ
@@ -22,6 +22,16 @@ stream vs = length vs ∷ checks vs
 -- "Card P, hexadecimal: 00 07 01 01 00 03 00 00 00 02 01 01 00 00 00 01 02 00 00 00"
 abbrev pub cardP : List ℕ
 cardP = 0 ∷ 7 ∷ 1 ∷ 1 ∷ 0 ∷ 3 ∷ 0 ∷ 0 ∷ 0 ∷ 2 ∷ 1 ∷ 1 ∷ 0 ∷ 0 ∷ 0 ∷ 1 ∷ 2 ∷ 0 ∷ 0 ∷ 0 ∷ []
+
+-- P as it may be stored since before R-4: k stated as 1, n as 2, and both
+abbrev pub kStatedP : List ℕ
+kStatedP = 1 ∷ 7 ∷ 1 ∷ drop 2 cardP
+
+abbrev pub nStatedP : List ℕ
+nStatedP = 2 ∷ 7 ∷ 2 ∷ drop 2 cardP
+
+abbrev pub storedP : List ℕ
+storedP = 3 ∷ 7 ∷ 1 ∷ 2 ∷ drop 2 cardP
 
 -- "Q: k 1, n 2, m 3, generator 11 (terms 0, 1, 3)": k and n do not stand
 abbrev pub cardQ : List ℕ → List ℕ

@@ -1,28 +1,31 @@
--- What the clauses of `read_card`'s promise give for cards of the bench.
-use Prim.Native.Nat.{ℕ, zero, suc, _+_, _-_, _^_, _<_}
+-- What the clauses of the card readers' promises give for cards of the bench.
+use Prim.Native.Nat.{ℕ, zero, suc, _+_, _-_, _^_, _≤_, _<_}
 use mathlib.Core.Path.{_≡_, refl, sym, ap, _∙_, subst}
-use mathlib.Core.List.{[], _∷_}
+use mathlib.Core.List.{List, [], _∷_}
+use mathlib.Core.Logic.{⊎-elim}
 use native.Mathlib.Omega.{arith}
-use lib.ListN.{getD}
+use lib.ListN.{getD, List·getD-eq-default}
 use Rattle.bits.specs.Sums.{sumBelow, back}
 use Rattle.bits.specs.Digits.{bit}
+use Rattle.bits.proofs.Cases.{le-or-lt}
 use Rattle.bits.proofs.Sums.{all-at-most, all-at-most-twice}
 use Rattle.code.specs.Bench.{P}
 use Rattle.code.specs.Code.{generator}
 use Rattle.code.specs.Checks.{count, checkMask, touchesInfo, touchesBy, touches, Orthogonal}
 use Rattle.code.proofs.Touches.{touches-le}
-use Rattle.card.specs.Bench.{cardP}
+use Rattle.card.specs.Bench.{cardP, storedP}
 use Rattle.card.specs.Fields.{Fields, store, storeRows, storeChecks, storeStreams, storeCounts, cardOf}
-use Rattle.card.specs.Layout.{bytes4, stands, mapOf, layoutMasks, optional, layoutHead, allRows, layoutRows, layoutChecks, layoutStreams, layout, MasksIn, InLimits, Acceptable}
+use Rattle.card.specs.Layout.{bytes4, stands, mapOf, layoutMasks, optional, layoutHead, allRows, layoutRows, layoutChecks, layoutStreams, layout, MasksIn, InRanges, Acceptable}
 use Rattle.card.specs.Outcome.{outcomeOf, CardOutcome}
 use Rattle.card.specs.Outcome.Outcome.{accepted}
-use Rattle.card.specs.Promise.{CardPromise}
+use Rattle.card.specs.Promise.{CardPromise, EqualCards, OneForm}
 use Rattle.card.specs.declared.CardRead.{CardRead}
-use Rattle.card.specs.declared.CardRule.the-variants.{Present}
+use Rattle.card.specs.declared.CardRule.{CardRule}
+use Rattle.card.specs.declared.CardRule.the-variants.{Former, Present}
 use Rattle.card.proofs.Acceptance.{reads-back}
 use Rattle.card.proofs.RefusedCard.{not-both}
-use Rattle.outcomes.proofs.ReadCards.{wrongT, read-P, read-wrong-T}
-use Rattle.clients.specs.Cards.{fieldsP}
+use Rattle.outcomes.proofs.ReadCards.{wrongT, read-P, read-wrong-T, read-stored-P}
+use Rattle.clients.specs.Cards.{stating, fieldsP, storedFieldsP}
 
 -- ---- P is acceptable, shown without reading it
 
@@ -34,8 +37,8 @@ one-mask v l = record { many = refl; within = below }
     below zero = omega arith
     below (suc j) = omega arith
 
-limits-P : InLimits fieldsP
-limits-P =
+ranges-P : (bit : ℕ) → bit ≤ 1 → InRanges (stating bit)
+ranges-P bit l =
     record {
       kStands-bit = omega arith;
       nStands-bit = omega arith;
@@ -61,32 +64,44 @@ limits-P =
       );
     }
 
--- 1 if check q of P touches the error (b, s)
-abbrev by : ℕ → ℕ → ℕ → ℕ
-by q b s = touches (cardOf fieldsP) 0 q b s
+-- whether the defaults are stated changes nothing of the card
+module _ (stated : ℕ) where
+  -- 1 if check q of P touches the error (b, s)
+  abbrev by : ℕ → ℕ → ℕ → ℕ
+  by q b s = touches (cardOf (stating stated)) 0 q b s
 
-orthogonal-P : Orthogonal (cardOf fieldsP) 0
-unfolding sumBelow back bit generator count checkMask touchesInfo touchesBy touches store storeRows storeChecks storeStreams storeCounts cardOf
-orthogonal-P =
+  orthogonal-P : Orthogonal (cardOf (stating stated)) 0
+  unfolding sumBelow back bit generator count checkMask touchesInfo touchesBy touches store storeRows storeChecks storeStreams storeCounts cardOf
+  orthogonal-P =
+      record {
+        own = λ q l. omega (arith, all-at-most 2 (λ q. 1) (λ q. by q 0 0) refl q l, touches-le (cardOf (stating stated)) 0 q 0 0);
+        apart = λ b s q r lb ls other lq lr eq er.
+            let zq : q ≡ 0 = omega arith in
+            let zr : r ≡ 1 = omega arith in
+            let h = all-at-most-twice 2 2 (λ b s. by 0 b s + by 1 b s) (λ b s. 1 + (1 - (b + s))) refl b s (omega arith) ls in
+            let first : by 0 b s ≡ 1 = rw zq at eq in
+            let second : by 1 b s ≡ 1 = rw zr at er in
+            let zb : b ≡ 0 = omega arith in
+            let zs : s ≡ 0 = omega arith in
+            other zb zs;
+      }
+
+  orthogonal : (i : ℕ) → i < 1 → Orthogonal (cardOf (stating stated)) i
+  orthogonal i l = let e : 0 ≡ i = omega arith in subst (λ (i : ℕ). Orthogonal (cardOf (stating stated)) i) e orthogonal-P
+
+pub acceptable-P : Acceptable Present cardP fieldsP
+unfolding bytes4 stands mapOf layoutMasks optional layoutHead allRows layoutRows layoutChecks layoutStreams layout
+acceptable-P =
     record {
-      own = λ q l. omega (arith, all-at-most 2 (λ q. 1) (λ q. by q 0 0) refl q l, touches-le (cardOf fieldsP) 0 q 0 0);
-      apart = λ b s q r lb ls other lq lr eq er.
-          let zq : q ≡ 0 = omega arith in
-          let zr : r ≡ 1 = omega arith in
-          let h = all-at-most-twice 2 2 (λ b s. by 0 b s + by 1 b s) (λ b s. 1 + (1 - (b + s))) refl b s (omega arith) ls in
-          let first : by 0 b s ≡ 1 = rw zq at eq in
-          let second : by 1 b s ≡ 1 = rw zr at er in
-          let zb : b ≡ 0 = omega arith in
-          let zs : s ≡ 0 = omega arith in
-          other zb zs;
+      limits = record { ranges = ranges-P 0 (omega arith); defaults = record { k-left-out = λ e. refl; n-left-out = λ e. refl } };
+      orthogonal = orthogonal 0;
+      bytes-are = refl;
     }
 
-orthogonal : (i : ℕ) → i < 1 → Orthogonal (cardOf fieldsP) i
-orthogonal i l = let e : 0 ≡ i = omega arith in subst (λ (i : ℕ). Orthogonal (cardOf fieldsP) i) e orthogonal-P
-
-pub acceptable-P : Acceptable cardP fieldsP
+-- under the former rule nothing is asked of the defaults
+pub acceptable-stored-P : Acceptable Former storedP storedFieldsP
 unfolding bytes4 stands mapOf layoutMasks optional layoutHead allRows layoutRows layoutChecks layoutStreams layout
-acceptable-P = record { limits = limits-P; orthogonal = orthogonal; bytes-are = refl }
+acceptable-stored-P = record { limits = record { ranges = ranges-P 1 (omega arith); defaults = tt }; orthogonal = orthogonal 1; bytes-are = refl }
 
 -- ---- the clauses
 
@@ -98,11 +113,40 @@ module _ (r : CardRead) (promise : CardPromise Present cardP r) where
   pub card-P : r .card ≡ P
   card-P =
       let found = promise .only-these accepted-P in
-      found .1 .card-is ∙ ap (λ (x : CardOutcome). x .card) (sym (reads-back cardP (found .0) (found .1 .acceptable)) ∙ read-P)
+      found .1 .card-is ∙ ap (λ (x : CardOutcome). x .card) (sym (reads-back Present cardP (found .0) (found .1 .acceptable)) ∙ read-P)
+
+-- the same of P as it may be stored, under the former rule
+module _ (r : CardRead) (promise : CardPromise Former storedP r) where
+  pub accepted-stored-P : outcomeOf (r .verdict) ≡ accepted
+  accepted-stored-P = promise .all-these storedFieldsP acceptable-stored-P
+
+  pub card-stored-P : r .card ≡ P
+  card-stored-P =
+      let found = promise .only-these accepted-stored-P in
+      found .1 .card-is ∙ ap (λ (x : CardOutcome). x .card) (sym (reads-back Former storedP (found .0) (found .1 .acceptable)) ∙ read-stored-P)
+
+-- they are bytes
+small-P : (i : ℕ) → getD cardP i 0 < 256
+unfolding sumBelow
+small-P i =
+    ⊎-elim
+    (λ l. omega (arith, List·getD-eq-default cardP 0 l))
+    (λ l. omega (arith, all-at-most 20 (λ i. getD cardP i 0) (λ i. 255) refl i l))
+    (le-or-lt 20 i)
+
+module _ (bytes : List ℕ) (r : CardRead) (claim : OneForm bytes r) (v : outcomeOf (r .verdict) ≡ accepted) where
+  both : EqualCards bytes r cardP
+  both = claim cardP small-P v (ap (λ (x : CardOutcome). x .outcome) read-P)
+
+  pub bytes-of-P : r .card ≡ P → bytes ≡ cardP
+  bytes-of-P e = sym (both .equal-bytes (ap (λ (x : CardOutcome). x .card) read-P ∙ sym e))
+
+  pub value-of-P : bytes ≡ cardP → r .card ≡ P
+  value-of-P e = sym (both .equal-values (sym e)) ∙ ap (λ (x : CardOutcome). x .card) read-P
 
 -- no fields are laid out as these bytes within the limits and with orthogonal checks
-unacceptable-T : (f : Fields) → Acceptable wrongT f → ⊥
-unacceptable-T f a = not-both (ap (λ (r : CardOutcome). r .outcome) (reads-back wrongT f a)) read-wrong-T
+unacceptable-T : (rule : CardRule) (f : Fields) → Acceptable rule wrongT f → ⊥
+unacceptable-T rule f a = not-both (ap (λ (r : CardOutcome). r .outcome) (reads-back rule wrongT f a)) (read-wrong-T rule)
 
-pub not-accepted-T : (r : CardRead) → CardPromise Present wrongT r → outcomeOf (r .verdict) ≡ accepted → ⊥
-not-accepted-T r promise e = let found = promise .only-these e in unacceptable-T (found .0) (found .1 .acceptable)
+pub not-accepted-T : (rule : CardRule) (r : CardRead) → CardPromise rule wrongT r → outcomeOf (r .verdict) ≡ accepted → ⊥
+not-accepted-T rule r promise e = let found = promise .only-these e in unacceptable-T rule (found .0) (found .1 .acceptable)

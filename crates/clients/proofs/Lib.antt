@@ -4,4 +4,5 @@ pub mod ReceiverClauses
 pub mod SenderClauses
 pub mod BurstClauses
 pub mod ListingClauses
+pub mod RewritingClauses
 pub mod WriterClauses

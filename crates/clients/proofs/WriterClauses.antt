@@ -8,22 +8,21 @@ use lib.Seq.{take-all}
 use lib.IntN.{ℤ, pos, negℤ}
 use Rattle.code.specs.Bench.{P, T}
 use Rattle.code.specs.declared.Card.{Card}
-use Rattle.card.specs.Bench.{checks, cardP}
+use Rattle.card.specs.Bench.{checks, cardP, storedP}
 use Rattle.card.specs.Outcome.{CardOutcome}
 use Rattle.card.specs.Outcome.Outcome.{accepted}
 use Rattle.card.specs.Promise.{CardPromise}
 use Rattle.card.specs.Reading.{readCard}
 use Rattle.card.specs.declared.CardRead.{CardRead}
-use Rattle.card.specs.declared.CardRule.the-variants.{Present}
+use Rattle.card.specs.declared.CardRule.the-variants.{Former, Present}
 use Rattle.card.proofs.Acceptance.{reads-back}
 use Rattle.outcomes.specs.Outcome.{BurstOutcome, outcome, refusedOf, givenOf}
-use Rattle.outcomes.proofs.ReadCards.{bytesT, read-P, read-short-P, read-T}
-use Rattle.writer.specs.Bench.{statedP, W, cardW, statedW}
+use Rattle.outcomes.proofs.ReadCards.{bytesT, read-P, read-short-P, read-T, read-stored-P, read-stated-P}
 use Rattle.card.specs.Written.{written}
 use Rattle.writer.specs.Outcome.{writeUnder, writeOf}
-use Rattle.writer.specs.Claims.{ReadsAs, StatesNoDefault, Plain, WrittenForm, CarriesOn}
+use Rattle.writer.specs.Claims.{ReadsAs, States, WrittenForm, CarriesOn}
 use Rattle.writer.proofs.Answers.{write-refused, write-accepted, write-short, write-given}
-use Rattle.writer.proofs.Computed.{written-P, written-T, written-W, read-stated-P, read-stated-W}
+use Rattle.writer.proofs.Computed.{written-P, written-T}
 use Rattle.clients.specs.Cards.{fieldsP}
 use Rattle.clients.specs.Forms.{FormOfP}
 use Rattle.clients.proofs.CardClauses.{acceptable-P}
@@ -37,30 +36,18 @@ module _ (bytes : List ℕ) (c : Card) (read : ReadsAs bytes c) (form : List ℕ
   short l = write-accepted bytes output read ∙ write-short c output (omega (arith, ap length known))
 
 -- ---- P's fields
-none-stated-P : StatesNoDefault fieldsP
-none-stated-P = record { k-left-out = λ e. refl; n-left-out = λ e. refl }
-
-plain-P : Plain P cardP fieldsP
-plain-P =
+states-P : States Present P cardP fieldsP
+states-P =
     record {
       acceptable = acceptable-P;
-      card-is = ap (λ (r : CardOutcome). r .card) (sym (reads-back cardP fieldsP acceptable-P) ∙ read-P);
-      states-none = none-stated-P;
+      card-is = ap (λ (r : CardOutcome). r .card) (sym (reads-back Present cardP fieldsP acceptable-P) ∙ read-P);
     }
 
 -- ---- `card_write`
-pub comes-back-P : (output : List ℕ) → length output ≡ 22 → {r : ℤ} {after : List ℕ} → CarriesOn cardP output r after
+pub comes-back-P : (output : List ℕ) → 20 ≤ length output → {r : ℤ} {after : List ℕ} → CarriesOn cardP output r after
     → outcome r after ≡ outcome (pos 20) (cardP ++ drop 20 output)
 unfolding givenOf
-comes-back-P output room claim =
-    claim .comes-back fieldsP acceptable-P none-stated-P (omega arith)
-
-pub fits-P : (output : List ℕ) → length output ≡ 20 → {r : ℤ} {after : List ℕ} → CarriesOn cardP output r after → r ≡ pos 20
-unfolding givenOf
-fits-P output room claim =
-    ap (λ (b : BurstOutcome). b .answer) (claim .fits fieldsP acceptable-P (omega arith))
-    ∙ ap (λ (c : Card). pos (length (written c))) (plain-P .card-is)
-    ∙ ap (λ (l : List ℕ). pos (length l)) written-P
+comes-back-P output room claim = claim .comes-back fieldsP acceptable-P room
 
 pub carried-on-T : (output : List ℕ) → length output ≡ 37 → {r : ℤ} {after : List ℕ} → length after ≡ 37
     → outcome r after ≡ writeOf bytesT output → CarriesOn bytesT output r after → readCard after ≡ record { outcome = accepted; card = T }
@@ -69,9 +56,9 @@ carried-on-T output room {after = after} filled e claim =
     let count = ap (λ (b : BurstOutcome). b .answer) (e ∙ given bytesT T read-T bytesT written-T output (omega arith)) in
     ap readCard (sym (take-all 37 after (omega arith))) ∙ claim .reads-back 37 (omega arith) count ∙ read-T
 
-pub left-out-W : (output : List ℕ) → length output ≡ 18 → writeOf statedW output ≡ outcome (pos 16) (cardW ++ drop 16 output)
-unfolding givenOf
-left-out-W output room = given statedW W read-stated-W cardW written-W output (omega arith)
+pub stated-P : (output : List ℕ) → writeOf storedP output ≡ outcome (negℤ (pos 18)) output
+unfolding refusedOf
+stated-P output = write-refused storedP output read-stated-P
 
 pub no-room-P : (output : List ℕ) → length output ≡ 19 → writeOf cardP output ≡ outcome (negℤ (pos 13)) output
 unfolding refusedOf
@@ -81,10 +68,10 @@ pub refused-P : (output : List ℕ) → writeOf (take 19 cardP) output ≡ outco
 unfolding refusedOf
 refused-P output = write-refused (take 19 cardP) output read-short-P
 
--- ---- `write_card`, with the card that P's bytes with stated defaults are read as
-module _ (read : CardRead) (promise : CardPromise Present statedP read) where
+-- ---- `write_card`, with the card that P as stored is read as under the former rule
+module _ (read : CardRead) (promise : CardPromise Former storedP read) where
   card-P : read .card ≡ P
-  card-P = ap (λ (r : CardOutcome). r .card) (promise .is-read ∙ read-stated-P)
+  card-P = ap (λ (r : CardOutcome). r .card) (promise .is-read ∙ read-stored-P)
 
   pub written-as-P : (output : List ℕ) → length output ≡ 22 → {b : BurstOutcome} → b ≡ writeUnder (read .card) output
       → b ≡ outcome (pos 20) (cardP ++ drop 20 output)
@@ -98,9 +85,9 @@ module _ (read : CardRead) (promise : CardPromise Present statedP read) where
   form-of-P claims =
       let form = subst WrittenForm card-P claims in
       record {
-        reads-back = form .reads-back statedP read-stated-P;
-        states-none = form .states-none statedP read-stated-P;
-        one-only = form .one-only cardP fieldsP plain-P;
-        length-most = form .length-most statedP read-stated-P;
-        shortest = form .shortest cardP fieldsP acceptable-P (plain-P .card-is);
+        reads-back = form .reads-back Former storedP read-stored-P;
+        states-it = form .states-it Former storedP read-stored-P;
+        one-only = form .one-only cardP fieldsP states-P;
+        length-most = form .length-most Former storedP read-stored-P;
+        shortest = form .shortest Present cardP fieldsP states-P;
       }

@@ -1,13 +1,20 @@
-// Clients of `read_card`'s promise.
+// Clients of the promises of `read_card` and `read_under`.
 ghost use mathlib.Core.Path.{_≡_};
 ghost use Rattle.code.specs.Bench as Bench;
 ghost use Rattle.card.specs.Outcome.{outcomeOf};
-ghost use Rattle.card.specs.Outcome.Outcome.{accepted};
+ghost use Rattle.card.specs.Outcome.Outcome.{accepted, refused};
+ghost use Rattle.code.specs.Guarantees.{Guarantees};
+ghost use Rattle.card.specs.Bench.{cardP};
 use card::CardRead;
+use card::CardRule;
 
 // Card P.
 pub(crate) const P: [u8; 20] =
     *b"\x00\x07\x01\x01\x00\x03\x00\x00\x00\x02\x01\x01\x00\x00\x00\x01\x02\x00\x00\x00";
+
+// P as it may be stored since before R-4: k stated as 1, n as 2.
+pub(crate) const STORED_P: [u8; 22] =
+    *b"\x03\x07\x01\x02\x01\x01\x00\x03\x00\x00\x00\x02\x01\x01\x00\x00\x00\x01\x02\x00\x00\x00";
 
 // Card T.
 pub(crate) const T: [u8; 37] = *b"\x03\x0a\x02\x03\x02\x03\x00\x03\x00\x00\x00\x05\x00\x00\x00\
@@ -21,11 +28,34 @@ pub fn p_is_accepted() -> CardRead
     card::read_card(&P)
 }
 
-// T with s0, s2 for stream 1, whose checks are not orthogonal, cannot be got accepted: `only-these`.
-pub fn t_with_s2_is_not_accepted() -> CardRead
+// Bytes that are read as P are P's, and P's bytes are read as P: `equal-bytes`, `equal-values`.
+pub fn p_has_one_form(bytes: &[u8]) -> CardRead
+    ensures { λ r. ⌜ (outcomeOf (r .verdict) ≡ accepted → r .card ≡ Bench.P → now (bytes .entry) ≡ cardP) ⌝ }
+    ensures { λ r. ⌜ (outcomeOf (r .verdict) ≡ accepted → now (bytes .entry) ≡ cardP → r .card ≡ Bench.P) ⌝ }
+{
+    card::read_card(bytes)
+}
+
+// P with its defaults stated: `is-read`.
+pub fn stored_p_is_refused() -> CardRead
+    ensures { λ r. ⌜ outcomeOf (r .verdict) ≡ refused 18 2 ⌝ }
+{
+    card::read_card(&STORED_P)
+}
+
+// Under the former rule it cannot be turned down, and is P: `all-these`, `only-these`, `guaranteed`.
+pub fn stored_p_is_accepted() -> CardRead
+    ensures { λ r. ⌜ (outcomeOf (r .verdict) ≡ accepted) × (r .card ≡ Bench.P) × Guarantees (r .card) ⌝ }
+{
+    card::read_under(CardRule::Former, &STORED_P)
+}
+
+// T with s0, s2 for stream 1, whose checks are not orthogonal, cannot be got accepted under either rule: `only-these`.
+pub fn t_with_s2_is_not_accepted(rule: CardRule) -> CardRead
     ensures { λ r. ⌜ (outcomeOf (r .verdict) ≡ accepted → ⊥) ⌝ }
 {
-    card::read_card(
+    card::read_under(
+        rule,
         b"\x03\x0a\x02\x03\x02\x03\x00\x03\x00\x00\x00\x05\x00\x00\x00\
           \x02\x01\x01\x00\x00\x00\x01\x04\x00\x00\x00\
           \x02\x01\x01\x00\x00\x00\x01\x04\x00\x00\x00",
@@ -33,8 +63,8 @@ pub fn t_with_s2_is_not_accepted() -> CardRead
 }
 
 // More bytes than any card has: `length-most`.
-pub fn too_long_is_not_accepted(bytes: &[u8; 1164]) -> CardRead
+pub fn too_long_is_not_accepted(rule: CardRule, bytes: &[u8; 1164]) -> CardRead
     ensures { λ r. ⌜ (outcomeOf (r .verdict) ≡ accepted → ⊥) ⌝ }
 {
-    card::read_card(bytes)
+    card::read_under(rule, bytes)
 }

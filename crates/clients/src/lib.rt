@@ -5,5 +5,6 @@ pub mod cards;
 pub mod checks;
 pub mod edges;
 pub mod listings;
+pub mod rewritings;
 pub mod sessions;
 pub mod written;

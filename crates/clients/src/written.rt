@@ -8,21 +8,22 @@ ghost use Rattle.card.specs.Bench.{cardP};
 ghost use Rattle.card.specs.Outcome.Outcome.{accepted};
 ghost use Rattle.card.specs.Reading.{readCard};
 ghost use Rattle.outcomes.specs.Outcome.{outcome};
-ghost use Rattle.writer.specs.Bench.{cardW};
 ghost use Rattle.writer.specs.Outcome.{answerOf};
 ghost use Rattle.clients.specs.Forms.{FormOfP};
 use crate::cards::P;
+use crate::cards::STORED_P;
 use crate::cards::T;
+use card::CardRule;
 use writer::CardWritten;
 
-// P states no default and comes back byte for byte: `comes-back`. What the output has beyond it is as it was.
+// P comes back byte for byte: `comes-back`. What the output has beyond it is as it was.
 pub fn p_comes_back(output: &mut [u8; 22]) -> i32
     ensures { λ r. ⌜ outcome r (now (output .exit)) ≡ outcome (pos 20) (cardP ++ drop 20 (now (output .entry))) ⌝ }
 {
     burst::write::card_write(&P, output)
 }
 
-// An output just as long as P is room enough: `fits`.
+// An output just as long as P is room enough: `comes-back`.
 pub fn p_fits(output: &mut [u8; 20]) -> i32
     ensures { λ r. ⌜ r ≡ pos 20 ⌝ }
 {
@@ -36,14 +37,11 @@ pub fn t_is_carried_on(output: &mut [u8; 37]) -> i32
     burst::write::card_write(&T, output)
 }
 
-// A card of k 1 and n 3 that states both, and whose second parity stream has no generator: its k is left out.
-pub fn default_is_left_out(output: &mut [u8; 18]) -> i32
-    ensures { λ r. ⌜ outcome r (now (output .exit)) ≡ outcome (pos 16) (cardW ++ drop 16 (now (output .entry))) ⌝ }
+// P with its defaults stated is refused, though there is room.
+pub fn stored_p_is_refused(output: &mut [u8; 22]) -> i32
+    ensures { λ r. ⌜ outcome r (now (output .exit)) ≡ outcome (negℤ (pos 18)) (now (output .entry)) ⌝ }
 {
-    burst::write::card_write(
-        b"\x03\x0b\x01\x03\x00\x01\x00\x01\x00\x00\x00\x01\x01\x01\x00\x00\x00",
-        output,
-    )
+    burst::write::card_write(&STORED_P, output)
 }
 
 // One that is a byte shorter is left as it was.
@@ -60,13 +58,11 @@ pub fn short_p_is_refused(output: &mut [u8; 1]) -> i32
     burst::write::card_write(&P[..19], output)
 }
 
-// The card that P with its defaults stated is read as, written: P's bytes, and each clause on the written form.
+// The card that P as stored is read as under the former rule, written: P's bytes, and each clause on the written form.
 pub fn p_is_written(output: &mut [u8; 22]) -> CardWritten
     ensures { λ r. ⌜ outcome (answerOf r) (now (output .exit)) ≡ outcome (pos 20) (cardP ++ drop 20 (now (output .entry))) ⌝ }
     ensures { λ _. ⌜ FormOfP ⌝ }
 {
-    let read = card::read_card(
-        b"\x03\x07\x01\x02\x01\x01\x00\x03\x00\x00\x00\x02\x01\x01\x00\x00\x00\x01\x02\x00\x00\x00",
-    );
+    let read = card::read_under(CardRule::Former, &STORED_P);
     writer::write_card(read.card, output)
 }

@@ -5,8 +5,8 @@ use mathlib.Core.Bool.{Bool, true, false, cond}
 use mathlib.Core.List.{List, [], _∷_, _++_}
 use mathlib.Core.Logic.{⊎-elim}
 use native.Mathlib.Omega.{arith}
-use lib.ListN.{length, getD, take, drop, length-append, length-take}
-use lib.Seq.{take-all, length-take-le}
+use lib.ListN.{length, getD, take, drop, length-take}
+use lib.Seq.{take-all}
 use lib.IntN.{pos}
 use lib.Signed.{mag}
 use lib.Dec.{ltb}
@@ -27,9 +27,10 @@ use Rattle.outcomes.specs.Listing.{tooLongLine, refusedLine}
 use Rattle.outcomes.specs.Outcome.{BurstOutcome, outcome, givenOf}
 use Rattle.writer.specs.Claims.{ReadsUnder, ReadsAs}
 use Rattle.writer.proofs.Forms.{written-form}
-use Rattle.outcomes.proofs.Writing.{wrote-front}
+use Rattle.listing.specs.AtFront.{AtFront}
 use Rattle.listing.specs.Written.{WroteWhole}
 use Rattle.listing.specs.Rewriting.{rewrittenUnder, rewritten, Rewrites}
+use Rattle.listing.proofs.AtFront.{front-written}
 
 -- ---- each case
 module _ (input : List ℕ) where
@@ -99,13 +100,10 @@ by-the-front input whole e =
 
 -- ---- the promise of `rewrite`
 module _ (input output : List ℕ) (bytes : (i : ℕ) → getD input i 0 < 256) {count : ℕ} {after : List ℕ} where
-  rewrites : (s : List ℕ) → rewritten input ≡ s → count ≡ length s → after ≡ s ++ drop (length s) output → count ≤ 1163
-      → Rewrites input output count after
-  rewrites s e c a w =
+  rewrites : AtFront 1163 (rewritten input) output count after → Rewrites input output count after
+  rewrites w =
       record {
-        count-is = c ∙ ap length (sym e);
-        bytes-are = a ∙ ap (λ (l : List ℕ). l ++ drop (length l) output) (sym e);
-        within = w;
+        wrote = w;
         carried-over = carried input bytes;
         cards-only = only input bytes (readUnder Former input .outcome) (readUnder Former input .card) refl;
         as-it-stands = as-it-stands input bytes;
@@ -114,20 +112,16 @@ module _ (input output : List ℕ) (bytes : (i : ℕ) → getD input i 0 < 256) 
 
   pub rewrites-line : {line : List ℕ} {most : ℕ} → rewritten input ≡ line → WroteWhole most output line after count → most ≤ 1163
       → 1163 ≤ length output → Rewrites input output count after
-  rewrites-line {line} e w l room =
-      rewrites line e (omega (arith, w .wrote .end-is)) (wrote-front (w .wrote) (omega (arith, w .wrote .end-is, w .within))) (omega (arith, w .within))
+  rewrites-line e w l room = rewrites (front-written output 1163 e w l room)
 
   pub rewrites-card : (c : Card) → rewritten input ≡ written c → length (written c) ≤ 1163 → outcome (pos count) after ≡ givenOf (written c) output
       → Rewrites input output count after
   unfolding givenOf
   rewrites-card c e l g =
       let n : count ≡ length (written c) = ap (λ (b : BurstOutcome). mag (b .answer)) g in
-      rewrites (written c) e n (ap (λ (b : BurstOutcome). b .output) g) (omega arith)
-
--- the bytes are within the output
-pub rewritten-within : {input output after : List ℕ} {count : ℕ} → Rewrites input output count after → count ≤ length after
-rewritten-within {input} {output} w =
-    omega (arith, w .count-is, ap length (w .bytes-are), length-append (rewritten input) (drop (length (rewritten input)) output))
-
-pub rewritten-length : {input output after : List ℕ} {count : ℕ} → Rewrites input output count after → count ≡ length (take count after)
-rewritten-length {after = after} {count} w = sym (length-take-le count after (rewritten-within w))
+      rewrites
+      (record {
+        count-is = n ∙ ap length (sym e);
+        bytes-are = ap (λ (b : BurstOutcome). b .output) g ∙ ap (λ (l : List ℕ). l ++ drop (length l) output) (sym e);
+        within = omega arith;
+      })

@@ -1,3 +1,4 @@
+pub mod AtFront
 pub mod Promise
 pub mod Written
 pub mod Rewriting

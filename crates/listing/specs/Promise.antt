@@ -1,17 +1,14 @@
 -- The promise of `list`: document 01, "The listing", whole for every input.
 -- Assumes nothing.
-use Prim.Native.Nat.{ℕ, _≤_}
+use Prim.Native.Nat.{ℕ}
 use mathlib.Core.Path.{_≡_}
-use mathlib.Core.List.{List, _++_}
-use lib.ListN.{length, take, drop}
+use mathlib.Core.List.{List}
+use lib.ListN.{take}
 use Rattle.outcomes.specs.Listing.{listing}
+use Rattle.listing.specs.AtFront.{AtFront}
 
 pub record Lists (input output : List ℕ) (count : ℕ) (after : List ℕ) : Type 0 where
-  -- the count of the listing's bytes ..
-  pub count-is : count ≡ length (listing input)
-  -- .. which stand at the front of the output, and after them the output is as it was
-  pub text-is : after ≡ listing input ++ drop (length (listing input)) output
-  -- the output, of 458,784 bytes, always has room for them
-  pub within : count ≤ 458784
+  -- the listing, for which the output, of 458,784 bytes, always has room
+  pub listed : AtFront 458784 (listing input) output count after
   -- what follows the first 34,819 bytes of an input does not change its listing, so nobody needs to read further
   pub by-the-front : (whole : List ℕ) → input ≡ take 34819 whole → listing whole ≡ listing input

@@ -1,11 +1,11 @@
 -- Stored cards written anew: document 02, R-4 ("Stored ones are read a last time under the former rule and written anew by R-1's writer", "It reads
 -- one card from standard input to the end and writes only the new bytes, or the listing's refusal line, or `input too long` above 2,048 bytes").
 -- Assumes nothing.
-use Prim.Native.Nat.{ℕ, _≤_}
+use Prim.Native.Nat.{ℕ}
 use mathlib.Core.Path.{_≡_}
 use mathlib.Core.Bool.{cond}
-use mathlib.Core.List.{List, _++_}
-use lib.ListN.{length, take, drop}
+use mathlib.Core.List.{List}
+use lib.ListN.{length, take}
 use lib.Dec.{ltb}
 use Rattle.code.specs.declared.Card.{Card}
 use Rattle.card.specs.Outcome.{Outcome, accepted, refused}
@@ -14,6 +14,7 @@ use Rattle.card.specs.Written.{written}
 use Rattle.card.specs.declared.CardRule.the-variants.{Former}
 use Rattle.outcomes.specs.Listing.{tooLongLine, refusedLine}
 use Rattle.writer.specs.Claims.{ReadsUnder, ReadsAs}
+use Rattle.listing.specs.AtFront.{AtFront}
 
 -- what a card is written as
 unfoldable pub rewrittenUnder : Outcome → Card → List ℕ
@@ -25,12 +26,8 @@ unfoldable pub rewritten : List ℕ → List ℕ
 rewritten input = cond (ltb 2048 (length input)) tooLongLine (rewrittenUnder (readUnder Former input .outcome) (readUnder Former input .card))
 
 pub record Rewrites (input output : List ℕ) (count : ℕ) (after : List ℕ) : Type 0 where
-  -- the count of the bytes ..
-  pub count-is : count ≡ length (rewritten input)
-  -- .. which stand at the front of the output, and after them the output is as it was
-  pub bytes-are : after ≡ rewritten input ++ drop (length (rewritten input)) output
-  -- the output, of 1,163 bytes, always has room for them
-  pub within : count ≤ 1163
+  -- the new bytes, or the line, for which the output, of 1,163 bytes, always has room
+  pub wrote : AtFront 1163 (rewritten input) output count after
   -- what a stored card is written as is accepted under the present rule, with the same value ..
   pub carried-over : (c : Card) → ReadsUnder Former input c → ReadsAs (rewritten input) c
   -- .. and nothing else that is written is accepted

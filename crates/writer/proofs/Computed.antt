@@ -1,4 +1,4 @@
--- The written form of cards of the bench, by computing, and what bytes with a stated default are read as.
+-- The written form of cards of the bench, by computing, and what a stored card is read as under the former rule.
 use mathlib.Core.Path.{_≡_, refl}
 use Rattle.bits.specs.Sums.{sumBelow, upTo, back}
 use Rattle.bits.specs.Digits.{bit}
@@ -15,7 +15,7 @@ use Rattle.card.specs.declared.CardRule.the-variants.{Former}
 use Rattle.card.specs.Reading.{touchedBy, readCheck, readChecks, readStreams, readFields, readUnder}
 use Rattle.outcomes.proofs.ReadCards.{bytesT}
 use Rattle.card.specs.Written.{stated, masksAt, rowsOf, checksOf, streamOf, streamsOf, fieldsOf, written}
-use Rattle.writer.specs.Bench.{statedP, W, cardW, statedW}
+use Rattle.writer.specs.Bench.{W, cardW, storedW}
 
 -- "a field equal to its default is left out", and no other; a mask that is zero does not stand
 forms : (written P ≡ cardP) × (written T ≡ bytesT) × (written W ≡ cardW)
@@ -31,12 +31,6 @@ written-T = forms .1
 pub written-W : written W ≡ cardW
 written-W = forms .2
 
-readings : (readUnder Former statedP ≡ record { outcome = accepted; card = P }) × (readUnder Former statedW ≡ record { outcome = accepted; card = W })
+pub read-stored-W : readUnder Former storedW ≡ record { outcome = accepted; card = W }
 unfolding sumBelow back bit generator count checkMask touchesInfo touchesBy store storeRows storeChecks storeStreams storeCounts cardOf byteField standingField kField nField mapField wordAt maskField readHead standingMask readMasks readRows readGenerators besides touchedBy clashes judge readCheck readChecks readStreams readFields readUnder
-readings = (refl, refl)
-
-pub read-stated-P : readUnder Former statedP ≡ record { outcome = accepted; card = P }
-read-stated-P = readings .0
-
-pub read-stated-W : readUnder Former statedW ≡ record { outcome = accepted; card = W }
-read-stated-W = readings .1
+read-stored-W = refl

@@ -1,14 +1,10 @@
--- Cards whose written form is computed: those of document 01's bench, with and without their defaults stated, and one with two parity streams.
+-- Beside those of document 01's bench, a card with two parity streams, whose written form is computed.
 -- Assumes nothing.
 use Prim.Native.Nat.{ℕ}
 use mathlib.Core.List.{List, _∷_, _++_}
-use lib.ListN.{drop, replicate}
+use lib.ListN.{replicate}
 use Rattle.code.specs.declared.Card.{Card}
-use Rattle.card.specs.Bench.{mask, cardP}
-
--- P with k stated as 1 and n as 2
-abbrev pub statedP : List ℕ
-statedP = 3 ∷ 7 ∷ 1 ∷ 2 ∷ drop 2 cardP
+use Rattle.card.specs.Bench.{mask}
 
 -- k 1, n 3, m 0: parity stream 1 has generator 1, parity stream 2 none, and the one check is s0 of parity stream 1
 abbrev pub W : Card
@@ -23,6 +19,6 @@ restW = 0 ∷ 1 ∷ 0 ∷ mask 1 ++ 1 ∷ 1 ∷ mask 1
 abbrev pub cardW : List ℕ
 cardW = 2 ∷ 11 ∷ 3 ∷ restW
 
--- the same with k stated as 1
-abbrev pub statedW : List ℕ
-statedW = 3 ∷ 11 ∷ 1 ∷ 3 ∷ restW
+-- as it may be stored: k stated as 1
+abbrev pub storedW : List ℕ
+storedW = 3 ∷ 11 ∷ 1 ∷ 3 ∷ restW

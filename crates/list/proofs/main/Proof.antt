@@ -1,6 +1,6 @@
 -- The listing's bytes are at the front of the output.
 use borrow.Author.Needs.{needs}
-use Rattle.listing.proofs.Listed.{listed-within, listed-length}
+use Rattle.listing.proofs.AtFront.{front-within, front-length}
 use Rattle.list.proofs.main.Statement.{statement}
 use Rattle.list.proofs.main.Tie as tie
 
@@ -20,10 +20,10 @@ list-requires : tie.Need-list-requires
 list-requires c κs = search needs
 
 array-share-prefix-output : tie.Need-array-share-prefix-output
-array-share-prefix-output c = listed-within (c .list .ensures)
+array-share-prefix-output c = front-within (c .list .ensures .listed)
 
 slice-aggregate-write-all : tie.Need-slice-aggregate-write-all
-slice-aggregate-write-all c = listed-length (c .before .list .ensures)
+slice-aggregate-write-all c = front-length (c .before .list .ensures .listed)
 
 write-all-requires : tie.Need-write-all-requires
 write-all-requires c κs = search needs

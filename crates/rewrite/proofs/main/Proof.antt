@@ -1,6 +1,6 @@
 -- The bytes of the card, or of the line, are at the front of the output.
 use borrow.Author.Needs.{needs}
-use Rattle.listing.proofs.Rewritten.{rewritten-within, rewritten-length}
+use Rattle.listing.proofs.AtFront.{front-within, front-length}
 use Rattle.rewrite.proofs.main.Statement.{statement}
 use Rattle.rewrite.proofs.main.Tie as tie
 
@@ -20,10 +20,10 @@ rewrite-requires : tie.Need-rewrite-requires
 rewrite-requires c κs = search needs
 
 array-share-prefix-output : tie.Need-array-share-prefix-output
-array-share-prefix-output c = rewritten-within (c .rewrite .ensures)
+array-share-prefix-output c = front-within (c .rewrite .ensures .wrote)
 
 slice-aggregate-write-all : tie.Need-slice-aggregate-write-all
-slice-aggregate-write-all c = rewritten-length (c .before .rewrite .ensures)
+slice-aggregate-write-all c = front-length (c .before .rewrite .ensures .wrote)
 
 write-all-requires : tie.Need-write-all-requires
 write-all-requires c κs = search needs

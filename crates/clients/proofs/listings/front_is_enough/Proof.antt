@@ -7,7 +7,7 @@ list-requires : tie.Need-list-requires
 list-requires c κs = search needs
 
 returns : tie.Need-returns
-returns c = (listed-whole _ _ _ _ (c .list .ensures) (search needs), c .list .ensures .within)
+returns c = (listed-whole (c .list .ensures) (search needs), c .list .ensures .listed .within)
 
 pub front-is-enough-spec : {M : Type 1} → statement M
 front-is-enough-spec = tie.close (tie.spec list-requires returns)

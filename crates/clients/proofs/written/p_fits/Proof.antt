@@ -1,6 +1,8 @@
+use mathlib.Core.Path.{ap}
 use borrow.Author.Needs.{needs}
+use Rattle.outcomes.specs.Outcome.{BurstOutcome}
 use Rattle.burst.proofs.Answers.{answer-is}
-use Rattle.clients.proofs.WriterClauses.{fits-P}
+use Rattle.clients.proofs.WriterClauses.{comes-back-P}
 use Rattle.clients.proofs.written.p_fits.Statement.{statement}
 use Rattle.clients.proofs.written.p_fits.Tie as tie
 
@@ -13,7 +15,7 @@ card-write-requires c κs = search needs
 returns : tie.Need-returns
 returns c =
     let written = c .card-write in
-    answer-is (written .result) (written .ok) (fits-P _ (search needs) (written .ensures .1))
+    answer-is (written .result) (written .ok) (ap (λ (b : BurstOutcome). b .answer) (comes-back-P _ (search needs) (written .ensures .1)))
 
 pub p-fits-spec : {M : Type 1} → statement M
 p-fits-spec = tie.close (tie.spec slice-aggregate-card-write card-write-requires returns)
