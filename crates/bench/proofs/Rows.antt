@@ -35,4 +35,16 @@ rows =
       P-receives-one = refl;
       empty-burst = refl;
       T-receives = refl;
+      k-stated = refl;
+      n-stated = refl;
+      both-stated = refl;
+      k-was-stated = refl;
+      n-was-stated = refl;
+      both-were-stated = refl;
+      before-n = refl;
+      n-range-first = refl;
+      k-range-first = refl;
+      end-first = refl;
+      other-n = refl;
+      other-k = refl;
     }

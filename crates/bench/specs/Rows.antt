@@ -1,5 +1,6 @@
 -- The starred cases of document 01, "Cards on the bench": "shown to follow from the definitions, as rows under one theorem" (Terms for each
--- promise, 4). A field is a row, in the document's words. Where it gives no offset, that of the check's map byte is added here.
+-- promise, 4). A field is a row, in the document's words. Where it gives no offset, that of the check's map byte is added here. Rows at the edges
+-- of document 02's requests stand at the end.
 -- Assumes nothing.
 use Prim.Native.Nat.{_+_}
 use mathlib.Core.Path.{_≡_}
@@ -8,13 +9,14 @@ use lib.IntN.{pos}
 use lib.ListN.{take}
 use Rattle.code.specs.Code.{sent}
 use Rattle.card.specs.Outcome.Outcome.{accepted, refused}
-use Rattle.card.specs.Reading.{readCard}
+use Rattle.card.specs.Reading.{readUnder, readCard}
+use Rattle.card.specs.declared.CardRule.the-variants.{Former}
 use Rattle.majority.specs.Rule.{decoded}
 use Rattle.receiving.specs.Answers.{waiting}
 use Rattle.receiving.specs.Calls.{answersBy}
 use Rattle.outcomes.specs.Receiving.{receiveOf}
 use Rattle.code.specs.Bench.{s}
-use Rattle.card.specs.Bench.{cardP, cardQ, cardR, cardT}
+use Rattle.card.specs.Bench.{cardP, kStatedP, nStatedP, storedP, cardQ, cardR, cardT}
 
 pub record Rows : Type 0 where
   -- P and Q, which the other rows change; an own digit that is not excepted would refuse both
@@ -50,3 +52,19 @@ pub record Rows : Type 0 where
   pub empty-burst : receiveOf cardP [] [] ≡ record { answer = pos 0; output = [] }
   -- not the document's: without feedback T would give other frames, and feeding stream 1 back before stream 2 is decided would too
   pub T-receives : decoded (readCard (cardT (s 0 ∷ s 1 ∷ []) (s 0 ∷ s 2 ∷ [])) .card) (4 ∷ 4 ∷ 4 ∷ 0 ∷ 0 ∷ []) ≡ 3 ∷ 0 ∷ 0 ∷ []
+  -- R-4: "A card that states k as 1 or n as 2 was accepted and isn't from now on", "with 18 at the field's offset"
+  pub k-stated : readCard kStatedP .outcome ≡ refused 18 2
+  pub n-stated : readCard nStatedP .outcome ≡ refused 18 2
+  pub both-stated : readCard storedP .outcome ≡ refused 18 2
+  pub k-was-stated : readUnder Former kStatedP ≡ readCard cardP
+  pub n-was-stated : readUnder Former nStatedP ≡ readCard cardP
+  pub both-were-stated : readUnder Former storedP ≡ readCard cardP
+  -- "directly after the field's own range is found good": k is refused before n is looked at, here 9; n 2 under k 2 is out of range, and so is k 0;
+  -- a field cut short has no range yet
+  pub before-n : readCard (3 ∷ 7 ∷ 1 ∷ 9 ∷ []) .outcome ≡ refused 18 2
+  pub n-range-first : readCard (3 ∷ 7 ∷ 2 ∷ 2 ∷ []) .outcome ≡ refused 3 3
+  pub k-range-first : readCard (3 ∷ 7 ∷ 0 ∷ 2 ∷ []) .outcome ≡ refused 2 2
+  pub end-first : readCard (1 ∷ 7 ∷ []) .outcome ≡ refused 1 2
+  -- n 2 is the default of k 1 alone, and k 1 that of every n: what is not a default stands
+  pub other-n : readCard (2 ∷ 7 ∷ 3 ∷ []) .outcome ≡ refused 1 3
+  pub other-k : readCard (3 ∷ 7 ∷ 2 ∷ 3 ∷ []) .outcome ≡ refused 1 4

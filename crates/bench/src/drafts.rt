@@ -28,6 +28,11 @@ pub(crate) fn named(letter: u8) -> Draft {
         b'g' => document::p_without_generator(),
         // k 2 and no n: by default n is 2.
         b'n' => of(b"\x01\x01\x02"),
+        // P with its defaults stated; n stated as 2; k stated as 1 and n not there; k not there.
+        b'd' => document::p_with_defaults(),
+        b'e' => of(b"\x02\x01\x02"),
+        b'f' => of(b"\x03\x01\x01"),
+        b'h' => of(b"\x01\x01"),
         // P with m 31 and its terms far apart; no memory; all eight streams; sixteen checks; the most bytes.
         b'F' => document::p_reaching_31(),
         b'M' => streams::repetition(),
@@ -80,10 +85,37 @@ fn bytes(draft: Draft, values: &[u8]) -> Draft {
     drafted
 }
 
-// k and n stand, m is 0. Each information stream has the generator 1 at parity stream 1, whose bit is in the map, and the one check s0.
-pub(crate) fn plain(k: u8, n: u8, map_low: u8, map_high: u8) -> Draft {
-    let head = byte(byte(byte(of(b"\x03\x01"), k), n), 0);
-    let code = byte(byte(head, map_low), map_high);
+// Byte 0, the card number 1, k and n, which both stand.
+fn stated_head(k: u8, n: u8) -> Draft {
+    byte(byte(of(b"\x03\x01"), k), n)
+}
+
+// The same, and a default doesn't stand.
+fn head(k: u8, n: u8) -> Draft {
+    if k == 1 {
+        if n == 2 {
+            of(b"\x00\x01")
+        } else {
+            byte(of(b"\x02\x01"), n)
+        }
+    } else {
+        if n == 2 {
+            byte(of(b"\x01\x01"), k)
+        } else {
+            stated_head(k, n)
+        }
+    }
+}
+
+// By the letter B k and n both stand, by any other a default doesn't; m is 0. Each information stream has the generator 1 at parity stream 1, whose
+// bit is in the map, and the one check s0.
+pub(crate) fn plain(letter: u8, k: u8, n: u8, map_low: u8, map_high: u8) -> Draft {
+    let sized = if letter == b'B' {
+        stated_head(k, n)
+    } else {
+        head(k, n)
+    };
+    let code = byte(byte(byte(sized, 0), map_low), map_high);
     let generators = repeated(code, b"\x01\x00\x00\x00", k);
     repeated(generators, b"\x01\x01\x01\x00\x00\x00", k)
 }

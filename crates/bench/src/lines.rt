@@ -49,3 +49,13 @@ pub(crate) fn outcome(draft: Draft) {
     verdict(v);
     text(b"\n");
 }
+
+// The same under the rule of before R-4.
+pub(crate) fn former_outcome(draft: Draft) {
+    let bytes = draft.bytes;
+    let read = card::read_under(card::CardRule::Former, front(&bytes, draft.len));
+    let v = read.verdict;
+    text(b", under the former rule");
+    verdict(v);
+    text(b"\n");
+}

@@ -1,4 +1,4 @@
-// The cases of card reading: document 01, "Cards on the bench" and "Refused because of the input", 1 to 10.
+// The cases of card reading: document 01, "Cards on the bench" and "Refused because of the input", 1 to 10; document 02, R-4, 18.
 use crate::drafts;
 use crate::drafts::Draft;
 use crate::lines;
@@ -8,13 +8,15 @@ use crate::tables::Kind;
 pub(crate) fn cases() {
     starred();
     memory_and_streams();
+    stated_defaults(Kind::Card);
+    stated_defaults(Kind::StoredCard);
     maps_masks_and_counts();
     cuts();
     lengths();
 }
 
 // What a row feeds is the letter of a card, and after it nothing, a byte to add, or the offset and the value of a byte to change; or, of a
-// plain card, any letter, k, n, and the two bytes of the generator map.
+// plain card, the letter that says what stands, k, n, and the two bytes of the generator map.
 pub(crate) fn drafted(fed: &[u8]) -> Draft {
     let card = drafts::named(tables::byte(fed, 0));
     let one = tables::byte(fed, 1);
@@ -22,7 +24,13 @@ pub(crate) fn drafted(fed: &[u8]) -> Draft {
     match fed.len() {
         2 => drafts::byte(card, one),
         3 => drafts::changed(card, bits::size(one), two),
-        5 => drafts::plain(one, two, tables::byte(fed, 3), tables::byte(fed, 4)),
+        5 => drafts::plain(
+            tables::byte(fed, 0),
+            one,
+            two,
+            tables::byte(fed, 3),
+            tables::byte(fed, 4),
+        ),
         _ => card,
     }
 }
@@ -45,7 +53,7 @@ fn starred() {
     );
 }
 
-// m is byte 2 of P. Then k at both ends, and n at both ends for each k.
+// m is byte 2 of P. Then k at both ends, and n at both ends for each k; a default doesn't stand.
 fn memory_and_streams() {
     tables::each(
         Kind::Card,
@@ -58,7 +66,6 @@ fn memory_and_streams() {
           k 1, n 2|K\x01\x02\x01\x00;\
           k 1, n 8|K\x01\x08\x01\x00;\
           k 1, n 9|K\x01\x09\x01\x00;\
-          k 2, n 2|K\x02\x02\x03\x00;\
           k 2, n 3|K\x02\x03\x03\x00;\
           k 2, n 8|K\x02\x08\x41\x00;\
           k 2, n 9|K\x02\x09\x41\x00;\
@@ -71,6 +78,22 @@ fn memory_and_streams() {
           k 4, n 8|K\x04\x08\x11\x11;\
           k 4, n 9|K\x04\x09\x11\x11;\
           k 2, n by default|n;",
+    );
+}
+
+// Fields that stand with their defaults, and what is tested before that: a field's end and its range.
+fn stated_defaults(kind: Kind) {
+    tables::each(
+        kind,
+        b"P, k stated as 1 and n as 2|d;\
+          k 1, n 2, both stated|B\x01\x02\x01\x00;\
+          k 1, n 3, both stated|B\x01\x03\x01\x00;\
+          k 1, n 9, both stated|B\x01\x09\x01\x00;\
+          k 2, n 2, both stated|B\x02\x02\x03\x00;\
+          k 0, n 2, both stated|B\x00\x02\x01\x00;\
+          n stated as 2, and no more|e;\
+          k stated as 1, and no n|f;\
+          k stated, and no k|h;",
     );
 }
 

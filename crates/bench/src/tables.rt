@@ -15,6 +15,7 @@ use crate::sending;
 // What the rows of a table are about.
 pub(crate) enum Kind {
     Card,
+    StoredCard,
     Sending,
     Receiving,
     Levels,
@@ -26,6 +27,7 @@ pub(crate) enum Kind {
 fn row(kind: Kind, fed: &[u8]) {
     match kind {
         Kind::Card => lines::outcome(reading::drafted(fed)),
+        Kind::StoredCard => lines::former_outcome(reading::drafted(fed)),
         Kind::Sending => sending::row(fed),
         Kind::Receiving => decoding::row(fed),
         Kind::Levels => levels::row(fed),

@@ -54,6 +54,15 @@ pub(crate) fn p_reaching_31() -> Draft {
     )
 }
 
+// P as it may be stored since before R-4: k stated as 1, n as 2.
+pub(crate) fn p_with_defaults() -> Draft {
+    drafts::of(
+        b"\x03\x07\x01\x02\x01\x01\x00\
+          \x03\x00\x00\x00\x02\
+          \x01\x01\x00\x00\x00\x01\x02\x00\x00\x00",
+    )
+}
+
 // P with no generator: the map is zero.
 pub(crate) fn p_without_generator() -> Draft {
     drafts::of(

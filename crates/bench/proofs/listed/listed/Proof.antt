@@ -1,6 +1,6 @@
 -- `bench::listed::listed` is safe: the listing's bytes are at the front of the output. Assumes nothing.
 use borrow.Author.Needs.{needs}
-use Rattle.listing.proofs.Listed.{listed-within, listed-length}
+use Rattle.listing.proofs.AtFront.{front-within, front-length}
 use Rattle.bench.proofs.listed.listed.Statement.{statement}
 use Rattle.bench.proofs.listed.listed.Tie as tie
 
@@ -14,10 +14,10 @@ text-requires : tie.Need-text-requires
 text-requires c κs = search needs
 
 array-share-prefix-output : tie.Need-array-share-prefix-output
-array-share-prefix-output c = listed-within (c .before .before .list .ensures)
+array-share-prefix-output c = front-within (c .before .before .list .ensures .listed)
 
 slice-aggregate-shown : tie.Need-slice-aggregate-shown
-slice-aggregate-shown c = listed-length (c .before .before .before .list .ensures)
+slice-aggregate-shown c = front-length (c .before .before .before .list .ensures .listed)
 
 shown-requires : tie.Need-shown-requires
 shown-requires c κs = search needs
