@@ -1,6 +1,7 @@
 -- By the test.
+use mathlib.Core.Path.{ap, _∙_}
 use borrow.Author.Tests.{eq-eqb, ne-eqb}
-use Rattle.card.specs.Reading.{kField}
+use Rattle.card.specs.Reading.{standingField, kField}
 use borrow.Author.Needs.{needs}
 use Rattle.card.proofs.fields.k_field.Statement.{statement}
 use Rattle.card.proofs.fields.k_field.Tie as tie
@@ -13,7 +14,7 @@ standing-field-requires c κs = search needs
 
 returns : tie.Need-returns
 unfolding kField
-returns c = rw (eq-eqb _ _ (c .before .before .if1 .taken), ← c .before .byte-field .ensures) (c .standing-field .ensures)
+returns c = rw (eq-eqb _ _ (c .before .before .if1 .taken)) (c .standing-field .ensures ∙ ap (standingField _ _ _) (c .before .byte-field .ensures))
 
 returns-2 : tie.Need-returns-2
 unfolding kField

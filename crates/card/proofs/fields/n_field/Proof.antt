@@ -1,6 +1,7 @@
 -- By the tests that led to each answer.
+use mathlib.Core.Path.{ap, _∙_}
 use borrow.Author.Tests.{eq-eqb, ne-eqb, lt-leb, le-leb}
-use Rattle.card.specs.Reading.{nField}
+use Rattle.card.specs.Reading.{standingField, nField}
 use borrow.Author.Needs.{needs}
 use Rattle.card.proofs.fields.n_field.Statement.{statement}
 use Rattle.card.proofs.fields.n_field.Tie as tie
@@ -16,7 +17,7 @@ standing-field-requires c κs = search needs
 
 returns : tie.Need-returns
 unfolding nField
-returns c = rw (eq-eqb _ _ (c .before .before .if1 .taken), ← c .before .byte-field .ensures) (c .standing-field .ensures)
+returns c = rw (eq-eqb _ _ (c .before .before .if1 .taken)) (c .standing-field .ensures ∙ ap (standingField _ _ _) (c .before .byte-field .ensures))
 
 add-if2 : tie.Need-add-if2
 add-if2 c = search needs
