@@ -1,5 +1,6 @@
 // The lines that the bench writes: what a case is, a colon, and what it came to.
 use crate::drafts::Draft;
+use card::CardRule;
 use libc::STDOUT_FILENO;
 
 pub(crate) fn text(words: &[u8]) {
@@ -41,21 +42,11 @@ pub(crate) fn front(bytes: &[u8], len: usize) -> &[u8] {
     part(bytes, 0, len)
 }
 
-// The end of a line: what reading the card comes to.
-pub(crate) fn outcome(draft: Draft) {
+// The end of a line: what reading the card comes to under a rule.
+pub(crate) fn outcome(rule: CardRule, draft: Draft) {
     let bytes = draft.bytes;
-    let read = card::read_card(front(&bytes, draft.len));
+    let read = card::read_card(rule, front(&bytes, draft.len));
     let v = read.verdict;
-    verdict(v);
-    text(b"\n");
-}
-
-// The same under the rule of before R-4.
-pub(crate) fn former_outcome(draft: Draft) {
-    let bytes = draft.bytes;
-    let read = card::read_under(card::CardRule::Former, front(&bytes, draft.len));
-    let v = read.verdict;
-    text(b", under the former rule");
     verdict(v);
     text(b"\n");
 }

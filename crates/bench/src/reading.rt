@@ -4,6 +4,7 @@ use crate::drafts::Draft;
 use crate::lines;
 use crate::tables;
 use crate::tables::Kind;
+use card::CardRule;
 
 pub(crate) fn cases() {
     starred();
@@ -33,6 +34,12 @@ pub(crate) fn drafted(fed: &[u8]) -> Draft {
         ),
         _ => card,
     }
+}
+
+// What the card came to before R-4.
+pub(crate) fn formerly(card: Draft) {
+    lines::text(b", under the former rule");
+    lines::outcome(CardRule::Former, card);
 }
 
 // The starred cases, the rows of `specs/Rows.antt`. The mask of Q's third check begins at byte 21, that of R's fourth at 26, and that of the
@@ -128,7 +135,7 @@ fn cuts() {
 
 fn cut(len: usize) {
     lines::counted(b"P cut at byte ", len as u64);
-    lines::outcome(drafts::cut(drafts::named(b'P'), len));
+    lines::outcome(CardRule::Present, drafts::cut(drafts::named(b'P'), len));
 }
 
 // "No accepted card has more than 1,163 bytes", and one has as many.

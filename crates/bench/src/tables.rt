@@ -11,6 +11,7 @@ use crate::lines;
 use crate::listed;
 use crate::reading;
 use crate::sending;
+use card::CardRule;
 
 // What the rows of a table are about.
 pub(crate) enum Kind {
@@ -26,8 +27,8 @@ pub(crate) enum Kind {
 
 fn row(kind: Kind, fed: &[u8]) {
     match kind {
-        Kind::Card => lines::outcome(reading::drafted(fed)),
-        Kind::StoredCard => lines::former_outcome(reading::drafted(fed)),
+        Kind::Card => lines::outcome(CardRule::Present, reading::drafted(fed)),
+        Kind::StoredCard => reading::formerly(reading::drafted(fed)),
         Kind::Sending => sending::row(fed),
         Kind::Receiving => decoding::row(fed),
         Kind::Levels => levels::row(fed),

@@ -17,6 +17,7 @@ use crate::registers::correct;
 use crate::registers::corrected;
 use crate::registers::generator_sums;
 use crate::registers::take_in;
+use card::CardRule;
 use card::Refusal;
 use card::Verdict;
 use code::MOST_FRAMES;
@@ -154,7 +155,7 @@ pub extern "C" fn burst_receive(card: &[u8], input: &[u8], output: &mut [u8]) ->
     ensures { λ r. ⌜ outcome r (now (output .exit)) ≡ receiveOf (now (card .entry)) (now (input .entry)) (now (output .entry)) ⌝ }
     ensures { λ r. ⌜ ComesOutAsSent (now (card .entry)) (now (input .entry)) (now (output .entry)) r (now (output .exit)) ⌝ }
 {
-    let read = card::read_card(card);
+    let read = card::read_card(CardRule::Present, card);
     let verdict = read.verdict;
     match verdict {
         Verdict::Accepted => receive_under(

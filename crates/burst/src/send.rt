@@ -9,6 +9,7 @@ ghost use Rattle.outcomes.specs.Sending.{sendUnder, sendOf};
 ghost use Rattle.burst.specs.Parts.{EveryCode};
 use crate::answer::counted;
 use crate::answer::refused;
+use card::CardRule;
 use card::Refusal;
 use card::Verdict;
 use code::MOST_FRAMES;
@@ -81,7 +82,7 @@ fn send_under(
 pub extern "C" fn burst_send(card: &[u8], input: &[u8], output: &mut [u8]) -> i32
     ensures { λ r. ⌜ outcome r (now (output .exit)) ≡ sendOf (now (card .entry)) (now (input .entry)) (now (output .entry)) ⌝ }
 {
-    let read = card::read_card(card);
+    let read = card::read_card(CardRule::Present, card);
     let verdict = read.verdict;
     match verdict {
         Verdict::Accepted => send_under(

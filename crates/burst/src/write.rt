@@ -9,6 +9,7 @@ ghost use Rattle.writer.specs.Outcome.{writeUnder, writeOf};
 ghost use Rattle.writer.specs.Claims.{CarriesOn};
 use crate::answer::counted;
 use crate::answer::refused;
+use card::CardRule;
 use card::Verdict;
 use code::Card;
 use writer::CardWritten;
@@ -32,7 +33,7 @@ pub extern "C" fn card_write(card: &[u8], output: &mut [u8]) -> i32
     ensures { λ r. ⌜ outcome r (now (output .exit)) ≡ writeOf (now (card .entry)) (now (output .entry)) ⌝ }
     ensures { λ r. ⌜ CarriesOn (now (card .entry)) (now (output .entry)) r (now (output .exit)) ⌝ }
 {
-    let read = card::read_card(card);
+    let read = card::read_card(CardRule::Present, card);
     let verdict = read.verdict;
     match verdict {
         Verdict::Accepted => write_under(read.card, output),

@@ -1,5 +1,5 @@
 -- A card is accepted exactly when its bytes are those of fields within the limits whose checks are orthogonal; what an accepted card guarantees;
--- and the promises of `read_under` and `read_card` from their equation with `readUnder`.
+-- and the promise of `read_card` from its equation with `readUnder`.
 use Prim.Native.Nat.{ℕ, _≤_, _<_}
 use mathlib.Core.Path.{_≡_, sym, ap, subst, _∙_}
 use mathlib.Core.List.{List}
@@ -11,7 +11,7 @@ use Rattle.code.specs.Guarantees.{Guarantees}
 use Rattle.card.specs.Fields.{Fields, cardOf}
 use Rattle.card.specs.Reading.{answer, readUnder, readCard}
 use Rattle.card.specs.Layout.{layout, Acceptable}
-use Rattle.card.specs.Promise.{CardPromise, OneForm}
+use Rattle.card.specs.Promise.{EqualCards, CardPromise}
 use Rattle.card.specs.declared.CardRead.{CardRead}
 use Rattle.card.specs.declared.CardRule.{CardRule}
 use Rattle.card.specs.declared.CardRule.the-variants.{Present}
@@ -58,35 +58,37 @@ module _ (rule : CardRule) (bs : List ℕ) where
   unfolding readUnder
   reads-back f a = ap answer (fields-back rule bs f a .1)
 
-  -- ---- the promise of `read_under`
-  module _ (r : CardRead) (bytes : (i : ℕ) → getD bs i 0 < 256) (e : published r ≡ readUnder rule bs) where
-    card-read : r .card ≡ readUnder rule bs .card
-    card-read = ap (λ (x : CardOutcome). x .card) e
-
-    outcome-read : outcomeOf (r .verdict) ≡ accepted → readUnder rule bs .outcome ≡ accepted
-    outcome-read v = sym (ap (λ (x : CardOutcome). x .outcome) e) ∙ v
-
-    pub card-promise : CardPromise rule bs r
-    card-promise =
-        record {
-          is-read = e;
-          only-these = λ v.
-              let a = accepted-fields bytes (outcome-read v) in
-              (a .0, record { acceptable = a .1; card-is = card-read ∙ a .2 });
-          all-these = λ f a. ap (λ (x : CardOutcome). x .outcome) (e ∙ reads-back f a);
-          length-most = λ v. accepted-length bytes (outcome-read v);
-          guaranteed = λ v. subst Guarantees (sym card-read) (accepted-guarantees (outcome-read v));
-        }
-
--- ---- what `read_card` promises besides
-pub one-form : (bs : List ℕ) (r : CardRead) → CardPromise Present bs r → OneForm bs r
-one-form bs r promise other small v a =
-    let own = promise .only-these v in
-    let its = accepted-fields Present other small a in
+-- ---- two cards
+one-form : (bs : List ℕ) → ((i : ℕ) → getD bs i 0 < 256) → (other : List ℕ) → ((i : ℕ) → getD other i 0 < 256) → readCard bs .outcome ≡ accepted
+    → readCard other .outcome ≡ accepted → EqualCards bs other
+one-form bs bytes other small e v =
+    let own = accepted-fields Present bs bytes e in
+    let its = accepted-fields Present other small v in
     record {
       equal-bytes = λ q.
-          its .1 .bytes-are
-          ∙ ap layout (same-fields (its .0) (own .0) (its .1 .limits) (own .1 .acceptable .limits) (sym (its .2) ∙ q ∙ own .1 .card-is))
-          ∙ sym (own .1 .acceptable .bytes-are);
-      equal-values = λ q. ap (λ (l : List ℕ). readCard l .card) q ∙ sym (ap (λ (x : CardOutcome). x .card) (promise .is-read));
+          own .1 .bytes-are
+          ∙ ap layout (same-fields (own .0) (its .0) (own .1 .limits) (its .1 .limits) (sym (own .2) ∙ q ∙ its .2))
+          ∙ sym (its .1 .bytes-are);
+      equal-values = λ q. ap (λ (l : List ℕ). readCard l .card) q;
     }
+
+-- ---- the promise of `read_card`
+module _ (rule : CardRule) (bs : List ℕ) (r : CardRead) (bytes : (i : ℕ) → getD bs i 0 < 256) (e : published r ≡ readUnder rule bs) where
+  card-read : r .card ≡ readUnder rule bs .card
+  card-read = ap (λ (x : CardOutcome). x .card) e
+
+  outcome-read : outcomeOf (r .verdict) ≡ accepted → readUnder rule bs .outcome ≡ accepted
+  outcome-read v = sym (ap (λ (x : CardOutcome). x .outcome) e) ∙ v
+
+  pub card-promise : CardPromise rule bs r
+  card-promise =
+      record {
+        is-read = e;
+        only-these = λ v.
+            let a = accepted-fields rule bs bytes (outcome-read v) in
+            (a .0, record { acceptable = a .1; card-is = card-read ∙ a .2 });
+        all-these = λ f a. ap (λ (x : CardOutcome). x .outcome) (e ∙ reads-back rule bs f a);
+        length-most = λ v. accepted-length rule bs bytes (outcome-read v);
+        guaranteed = λ v. subst Guarantees (sym card-read) (accepted-guarantees rule bs (outcome-read v));
+        one-form = one-form bs bytes;
+      }

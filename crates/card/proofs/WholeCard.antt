@@ -1,4 +1,4 @@
--- The parts of a card put together: what `read_under` gives is what the definition reads.
+-- The parts of a card put together: what `read_card` gives is what the definition reads.
 use Prim.Native.Nat.{ℕ, _+_, _-_, _≤_, _<_}
 use mathlib.Core.Path.{_≡_, sym, ap, _∙_}
 use mathlib.Core.List.{List}
@@ -58,7 +58,7 @@ module _ (rule : CardRule) (bs : List ℕ) where
         unfolding readUnder readFields cardOf
         whole-card l = rw (e₁, e₂, e₃, le-ltb at₂ (length bs) l)
 
--- ---- as `read_under` has them
+-- ---- as `read_card` has them
 module _ (rule : CardRule) (bs : List ℕ) (v₁ : Verdict) (z : Sizes) (at₁ : ℕ) (e₁ : readBy v₁ z at₁ ≡ mapRead sizesOf (readHead rule bs)) where
   pub head-stop : {x : Refusal} {o : ℕ} → v₁ ≡ Refused x o → refusedCard (numberOf x) o ≡ readUnder rule bs
   head-stop q = head-refused rule bs (part-fault sizesOf (readHead rule bs) v₁ z at₁ e₁ q)

@@ -1,5 +1,5 @@
 -- What reading a card promises, under either rule: document 01, "A card is accepted if reading gives no refusal", the notice's "a card is accepted
--- exactly when both hold", and "No accepted card has more than 1,163 bytes"; and under the present one, document 02, R-4, "equal cards, the order
+-- exactly when both hold", and "No accepted card has more than 1,163 bytes"; and document 02, R-4, "equal cards, the order
 -- of checks included, means equal bytes".
 -- Assumes nothing.
 use Prim.Native.Nat.{ℕ, _≤_, _<_}
@@ -20,6 +20,11 @@ pub record AcceptedAs (rule : CardRule) (bytes : List ℕ) (r : CardRead) (f : F
   pub acceptable : Acceptable rule bytes f
   pub card-is : r .card ≡ cardOf f
 
+-- of two cards: their values are equal exactly when their bytes are
+pub record EqualCards (bytes other : List ℕ) : Type 0 where
+  pub equal-bytes : readCard bytes .card ≡ readCard other .card → bytes ≡ other
+  pub equal-values : bytes ≡ other → readCard bytes .card ≡ readCard other .card
+
 pub record CardPromise (rule : CardRule) (bytes : List ℕ) (r : CardRead) : Type 0 where
   -- the verdict, its number and offset, and the card, for every slice
   pub is-read : published r ≡ readUnder rule bytes
@@ -29,13 +34,6 @@ pub record CardPromise (rule : CardRule) (bytes : List ℕ) (r : CardRead) : Typ
   pub all-these : (f : Fields) → Acceptable rule bytes f → outcomeOf (r .verdict) ≡ accepted
   pub length-most : outcomeOf (r .verdict) ≡ accepted → length bytes ≤ 1163
   pub guaranteed : outcomeOf (r .verdict) ≡ accepted → Guarantees (r .card)
-
--- of a card that was read and another, both accepted: their values are equal exactly when their bytes are
-pub record EqualCards (bytes : List ℕ) (r : CardRead) (other : List ℕ) : Type 0 where
-  pub equal-bytes : readCard other .card ≡ r .card → other ≡ bytes
-  pub equal-values : other ≡ bytes → readCard other .card ≡ r .card
-
-abbrev pub OneForm : List ℕ → CardRead → Type 0
-OneForm bytes r =
-    (other : List ℕ) → ((i : ℕ) → getD other i 0 < 256) → outcomeOf (r .verdict) ≡ accepted → readCard other .outcome ≡ accepted
-    → EqualCards bytes r other
+  -- this card and any other, both accepted under the present rule
+  pub one-form : (other : List ℕ) → ((i : ℕ) → getD other i 0 < 256) → readCard bytes .outcome ≡ accepted → readCard other .outcome ≡ accepted
+      → EqualCards bytes other

@@ -6,7 +6,7 @@ mod parts;
 ghost use mathlib.Core.Path.{_≡_};
 ghost use Rattle.card.specs.Refusals.{numberOf};
 ghost use Rattle.card.specs.Fields.{emptyCard};
-ghost use Rattle.card.specs.Promise.{CardPromise, OneForm};
+ghost use Rattle.card.specs.Promise.{CardPromise};
 use code::Card;
 
 // Why something is refused. Each case has its published number, by `refusal_number`.
@@ -87,7 +87,7 @@ fn refused(verdict: Verdict) -> CardRead
 }
 
 // A card read from its bytes, front to back; the first fault stops it.
-pub fn read_under(rule: CardRule, bytes: &[u8]) -> CardRead
+pub fn read_card(rule: CardRule, bytes: &[u8]) -> CardRead
     ensures { λ r. ⌜ CardPromise rule (now (bytes .entry)) r ⌝ }
 {
     let head = parts::read_head(rule, bytes);
@@ -136,12 +136,4 @@ pub fn read_under(rule: CardRule, bytes: &[u8]) -> CardRead
             checks,
         },
     }
-}
-
-// A card that a site brings.
-pub fn read_card(bytes: &[u8]) -> CardRead
-    ensures { λ r. ⌜ CardPromise CardRule.Present (now (bytes .entry)) r ⌝ }
-    ensures { λ r. ⌜ OneForm (now (bytes .entry)) r ⌝ }
-{
-    read_under(CardRule::Present, bytes)
 }

@@ -18,7 +18,8 @@ use Rattle.card.specs.Fields.{Fields, store, storeRows, storeChecks, storeStrea
 use Rattle.card.specs.Layout.{bytes4, stands, mapOf, layoutMasks, optional, layoutHead, allRows, layoutRows, layoutChecks, layoutStreams, layout, MasksIn, InRanges, Acceptable}
 use Rattle.card.specs.Outcome.{outcomeOf, CardOutcome}
 use Rattle.card.specs.Outcome.Outcome.{accepted}
-use Rattle.card.specs.Promise.{CardPromise, EqualCards, OneForm}
+use Rattle.card.specs.Promise.{EqualCards, CardPromise}
+use Rattle.card.specs.Reading.{readCard}
 use Rattle.card.specs.declared.CardRead.{CardRead}
 use Rattle.card.specs.declared.CardRule.{CardRule}
 use Rattle.card.specs.declared.CardRule.the-variants.{Former, Present}
@@ -134,15 +135,18 @@ small-P i =
     (λ l. omega (arith, all-at-most 20 (λ i. getD cardP i 0) (λ i. 255) refl i l))
     (le-or-lt 20 i)
 
-module _ (bytes : List ℕ) (r : CardRead) (claim : OneForm bytes r) (v : outcomeOf (r .verdict) ≡ accepted) where
-  both : EqualCards bytes r cardP
-  both = claim cardP small-P v (ap (λ (x : CardOutcome). x .outcome) read-P)
+module _ {bytes : List ℕ} {r : CardRead} (promise : CardPromise Present bytes r) (v : outcomeOf (r .verdict) ≡ accepted) where
+  both : EqualCards bytes cardP
+  both = promise .one-form cardP small-P (sym (ap (λ (x : CardOutcome). x .outcome) (promise .is-read)) ∙ v) (ap (λ (x : CardOutcome). x .outcome) read-P)
+
+  own : r .card ≡ readCard bytes .card
+  own = ap (λ (x : CardOutcome). x .card) (promise .is-read)
 
   pub bytes-of-P : r .card ≡ P → bytes ≡ cardP
-  bytes-of-P e = sym (both .equal-bytes (ap (λ (x : CardOutcome). x .card) read-P ∙ sym e))
+  bytes-of-P e = both .equal-bytes (sym own ∙ e ∙ sym (ap (λ (x : CardOutcome). x .card) read-P))
 
   pub value-of-P : bytes ≡ cardP → r .card ≡ P
-  value-of-P e = sym (both .equal-values (sym e)) ∙ ap (λ (x : CardOutcome). x .card) read-P
+  value-of-P e = own ∙ both .equal-values e ∙ ap (λ (x : CardOutcome). x .card) read-P
 
 -- no fields are laid out as these bytes within the limits and with orthogonal checks
 unacceptable-T : (rule : CardRule) (f : Fields) → Acceptable rule wrongT f → ⊥

@@ -1,4 +1,4 @@
-// Clients of the promises of `read_card` and `read_under`.
+// Clients of `read_card`'s promise.
 ghost use mathlib.Core.Path.{_≡_};
 ghost use Rattle.code.specs.Bench as Bench;
 ghost use Rattle.card.specs.Outcome.{outcomeOf};
@@ -25,36 +25,36 @@ pub(crate) const T: [u8; 37] = *b"\x03\x0a\x02\x03\x02\x03\x00\x03\x00\x00\x00\x
 pub fn p_is_accepted() -> CardRead
     ensures { λ r. ⌜ (outcomeOf (r .verdict) ≡ accepted) × (r .card ≡ Bench.P) ⌝ }
 {
-    card::read_card(&P)
+    card::read_card(CardRule::Present, &P)
 }
 
-// Bytes that are read as P are P's, and P's bytes are read as P: `equal-bytes`, `equal-values`.
+// Bytes that are accepted and read as P are P's, and P's bytes are read as P: `one-form`.
 pub fn p_has_one_form(bytes: &[u8]) -> CardRead
     ensures { λ r. ⌜ (outcomeOf (r .verdict) ≡ accepted → r .card ≡ Bench.P → now (bytes .entry) ≡ cardP) ⌝ }
     ensures { λ r. ⌜ (outcomeOf (r .verdict) ≡ accepted → now (bytes .entry) ≡ cardP → r .card ≡ Bench.P) ⌝ }
 {
-    card::read_card(bytes)
+    card::read_card(CardRule::Present, bytes)
 }
 
 // P with its defaults stated: `is-read`.
 pub fn stored_p_is_refused() -> CardRead
     ensures { λ r. ⌜ outcomeOf (r .verdict) ≡ refused 18 2 ⌝ }
 {
-    card::read_card(&STORED_P)
+    card::read_card(CardRule::Present, &STORED_P)
 }
 
 // Under the former rule it cannot be turned down, and is P: `all-these`, `only-these`, `guaranteed`.
 pub fn stored_p_is_accepted() -> CardRead
     ensures { λ r. ⌜ (outcomeOf (r .verdict) ≡ accepted) × (r .card ≡ Bench.P) × Guarantees (r .card) ⌝ }
 {
-    card::read_under(CardRule::Former, &STORED_P)
+    card::read_card(CardRule::Former, &STORED_P)
 }
 
 // T with s0, s2 for stream 1, whose checks are not orthogonal, cannot be got accepted under either rule: `only-these`.
 pub fn t_with_s2_is_not_accepted(rule: CardRule) -> CardRead
     ensures { λ r. ⌜ (outcomeOf (r .verdict) ≡ accepted → ⊥) ⌝ }
 {
-    card::read_under(
+    card::read_card(
         rule,
         b"\x03\x0a\x02\x03\x02\x03\x00\x03\x00\x00\x00\x05\x00\x00\x00\
           \x02\x01\x01\x00\x00\x00\x01\x04\x00\x00\x00\
@@ -66,5 +66,5 @@ pub fn t_with_s2_is_not_accepted(rule: CardRule) -> CardRead
 pub fn too_long_is_not_accepted(rule: CardRule, bytes: &[u8; 1164]) -> CardRead
     ensures { λ r. ⌜ (outcomeOf (r .verdict) ≡ accepted → ⊥) ⌝ }
 {
-    card::read_under(rule, bytes)
+    card::read_card(rule, bytes)
 }

@@ -63,6 +63,6 @@ pub fn p_is_written(output: &mut [u8; 22]) -> CardWritten
     ensures { λ r. ⌜ outcome (answerOf r) (now (output .exit)) ≡ outcome (pos 20) (cardP ++ drop 20 (now (output .entry))) ⌝ }
     ensures { λ _. ⌜ FormOfP ⌝ }
 {
-    let read = card::read_under(CardRule::Former, &STORED_P);
+    let read = card::read_card(CardRule::Former, &STORED_P);
     writer::write_card(read.card, output)
 }

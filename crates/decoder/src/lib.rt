@@ -1,6 +1,7 @@
 // The receiving session: frames in, frames out, by Massey's majority rule with feedback.
 mod registers;
 
+use card::CardRule;
 use card::Refusal;
 use card::Verdict;
 use code::Card;
@@ -52,7 +53,7 @@ fn fresh(card: Card, received: u32) -> Session
 pub fn open(card: &[u8]) -> Opened
     ensures { λ r. ⌜ OpenPromise (now (card .entry)) r ⌝ }
 {
-    let read = card::read_card(card);
+    let read = card::read_card(CardRule::Present, card);
     let verdict = read.verdict;
     let session = fresh(read.card, receiving::frames_at_opening(verdict));
     Opened { verdict, session }

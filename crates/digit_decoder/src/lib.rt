@@ -2,6 +2,7 @@
 // refusals are those of the first circuit's (`decoder`), and so are the frames that it hands out; it has no link figure.
 mod registers;
 
+use card::CardRule;
 use card::Refusal;
 use card::Verdict;
 use code::Card;
@@ -53,7 +54,7 @@ fn fresh(card: Card, received: u32) -> Session
 pub fn open(card: &[u8]) -> Opened
     ensures { λ r. ⌜ OpenPromise (now (card .entry)) r ⌝ }
 {
-    let read = card::read_card(card);
+    let read = card::read_card(CardRule::Present, card);
     let verdict = read.verdict;
     let session = fresh(read.card, receiving::frames_at_opening(verdict));
     Opened { verdict, session }

@@ -4,6 +4,7 @@ ghost use Rattle.card.specs.Refusals.{numberOf};
 ghost use Rattle.encoder.specs.Opening.{OpenPromise};
 ghost use Rattle.encoder.specs.Outcome.{published};
 ghost use Rattle.encoder.specs.Sending.{unsentOf, refusedOf, encodedOf, sendOf, sendTailOf};
+use card::CardRule;
 use card::Refusal;
 use card::Verdict;
 use code::Card;
@@ -50,7 +51,7 @@ fn unsent(card: Card, sent: u32) -> Session
 pub fn open(card: &[u8]) -> Opened
     ensures { λ r. ⌜ OpenPromise (now (card .entry)) r ⌝ }
 {
-    let read = card::read_card(card);
+    let read = card::read_card(CardRule::Present, card);
     let verdict = read.verdict;
     let card = read.card;
     match verdict {

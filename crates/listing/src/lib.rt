@@ -15,6 +15,7 @@ ghost use Rattle.outcomes.specs.Claims.{Admitted};
 ghost use Rattle.outcomes.specs.Listing.{firstBeyond, listingOf, listingUnder};
 ghost use Rattle.listing.specs.Promise.{Lists};
 ghost use Rattle.listing.specs.Written.{WroteWhole, HandsOut, ReadAs};
+use card::CardRule;
 use card::Refusal;
 use card::Verdict;
 use code::Card;
@@ -106,7 +107,7 @@ fn list_parts(bytes: &[u8], frames: &[u8], output: &mut [u8]) -> usize
     requires { ⌜ (length (now frames) ≤ 32768) × (458784 ≤ length (now output)) ⌝ }
     ensures { λ r. ⌜ WroteWhole 458784 (now (output .entry)) (listingUnder (readCard (now (bytes .entry)) .outcome) (readCard (now (bytes .entry)) .card) (now (frames .entry))) (now (output .exit)) r ⌝ }
 {
-    let read = card::read_card(bytes);
+    let read = card::read_card(CardRule::Present, bytes);
     let verdict = read.verdict;
     match verdict {
         Verdict::Accepted => list_frames(read.card, bytes, frames, output),

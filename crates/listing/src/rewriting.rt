@@ -35,7 +35,7 @@ pub fn rewrite(input: &[u8], output: &mut [u8; REWRITING_ROOM]) -> usize
     if LONGEST_CARD < input.len() {
         return lines::too_long(output);
     }
-    let read = card::read_under(CardRule::Former, input);
+    let read = card::read_card(CardRule::Former, input);
     let verdict = read.verdict;
     match verdict {
         Verdict::Accepted => write_anew(read.card, output),

@@ -27,13 +27,13 @@ returns : tie.Need-returns
 returns c =
     let a = c .before .before .before .before .before .before .args in
     let read = c .before .before .before .before .read-card in
-    opened-accepted (a .card .now) (read .result) (read .ensures .0) (c .unsent .result) (ap outcomeOf (c .before .enum-told .given .1)) (c .unsent .ensures)
+    opened-accepted (a .card .now) (read .result) (read .ensures) (c .unsent .result) (ap outcomeOf (c .before .enum-told .given .1)) (c .unsent .ensures)
 
 returns-2 : tie.Need-returns-2
 returns-2 c =
     let a = c .before .before .before .before .before .before .args in
     let read = c .before .before .before .before .read-card in
-    opened-refused (a .card .now) (read .result) (read .ensures .0) (c .unsent2 .result) (ap outcomeOf (c .before .enum-told2 .given .1)) (c .unsent2 .ensures)
+    opened-refused (a .card .now) (read .result) (read .ensures) (c .unsent2 .result) (ap outcomeOf (c .before .enum-told2 .given .1)) (c .unsent2 .ensures)
 
 pub open-spec : {M : Type 1} → statement M
 open-spec =

@@ -19,9 +19,9 @@ list-frames-requires c κs =
     let read = c .before .before .before .read-card in
     let e = ap outcomeOf (c .before .enum-told .given .1) in (
       record {
-        card-accepted = sym (ap (λ (r : CardOutcome). r .outcome) (read .ensures .0 .is-read)) ∙ e;
-        card-is = ap (λ (r : CardOutcome). r .card) (read .ensures .0 .is-read);
-        guaranteed = read .ensures .0 .guaranteed e;
+        card-accepted = sym (ap (λ (r : CardOutcome). r .outcome) (read .ensures .is-read)) ∙ e;
+        card-is = ap (λ (r : CardOutcome). r .card) (read .ensures .is-read);
+        guaranteed = read .ensures .guaranteed e;
       },
       start .pre .0,
       start .pre .1,
@@ -42,7 +42,7 @@ returns c =
     let read = c .before .before .before .before .before .before .read-card in
     whole-as
     (ap (λ (o : Outcome). listingUnder o (read .result .card) (a .frames .now)) (sym (ap outcomeOf (c .before .before .before .before .enum-told .given .1)))
-    ∙ ap (λ (r : CardOutcome). listingUnder (r .outcome) (r .card) (a .frames .now)) (read .ensures .0 .is-read))
+    ∙ ap (λ (r : CardOutcome). listingUnder (r .outcome) (r .card) (a .frames .now)) (read .ensures .is-read))
     (omega arith)
     (c .before .before .list-frames .ensures)
 
@@ -56,7 +56,7 @@ returns-2 c =
     let read = c .before .before .before .before .before .before .before .read-card in
     whole-as
     (ap (λ (o : Outcome). listingUnder o (read .result .card) (a .frames .now)) (sym (ap outcomeOf (c .before .before .before .before .before .verdict .given .1)))
-    ∙ ap (λ (r : CardOutcome). listingUnder (r .outcome) (r .card) (a .frames .now)) (read .ensures .0 .is-read))
+    ∙ ap (λ (r : CardOutcome). listingUnder (r .outcome) (r .card) (a .frames .now)) (read .ensures .is-read))
     (omega arith)
     (c .before .before .refused .ensures)
 

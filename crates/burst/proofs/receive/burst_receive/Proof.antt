@@ -17,7 +17,7 @@ enum-told c = search needs
 
 receive-under-requires : tie.Need-receive-under-requires
 receive-under-requires c κs =
-    let G = c .before .before .before .before .before .before .before .read-card .ensures .0 .guaranteed (ap outcomeOf (c .before .before .before .before .before .enum-told .given .1)) in
+    let G = c .before .before .before .before .before .before .before .read-card .ensures .guaranteed (ap outcomeOf (c .before .before .before .before .before .enum-told .given .1)) in
     (G .k-most, G .n-most, G .m-most)
 
 enum-known-verdict : tie.Need-enum-known-verdict
@@ -37,17 +37,17 @@ returns c =
     let card = read .result .card in
     let accepted = ap outcomeOf (c .before .before .before .before .before .before .before .before .enum-told .given .1) in
     let burst = c .before .before .receive-under in
-    received (a .card .now) (read .result) (read .ensures .0) (a .input .now) (a .output .now)
-    (by-card (a .card .now) (read .result) (read .ensures .0) (λ card. receiveUnder card (a .input .now) (a .output .now)) (a .output .now) accepted
-    (outcome-is (burst .result) (receiveUnder card (a .input .now) (a .output .now)) (burst .ok) (burst .ensures (card .number) (read .ensures .0 .guaranteed accepted))))
+    received (a .card .now) (read .result) (read .ensures) (a .input .now) (a .output .now)
+    (by-card (a .card .now) (read .result) (read .ensures) (λ card. receiveUnder card (a .input .now) (a .output .now)) (a .output .now) accepted
+    (outcome-is (burst .result) (receiveUnder card (a .input .now) (a .output .now)) (burst .ok) (burst .ensures (card .number) (read .ensures .guaranteed accepted))))
 
 returns-2 : tie.Need-returns-2
 unfolding receiveOf
 returns-2 c =
     let a = c .before .before .before .before .before .before .before .before .args in
     let read = c .before .before .before .before .read-card in
-    received (a .card .now) (read .result) (read .ensures .0) (a .input .now) (a .output .now)
-    (refused-by-card (a .card .now) (read .result) (read .ensures .0) (λ card. receiveUnder card (a .input .now) (a .output .now)) (a .output .now) (ap outcomeOf (c .before .before .verdict .given .1))
+    received (a .card .now) (read .result) (read .ensures) (a .input .now) (a .output .now)
+    (refused-by-card (a .card .now) (read .result) (read .ensures) (λ card. receiveUnder card (a .input .now) (a .output .now)) (a .output .now) (ap outcomeOf (c .before .before .verdict .given .1))
     (answer-is (c .refused .result) (c .refused .ok) (c .refused .ensures)))
 
 pub burst-receive-spec : {M : Type 1} → statement M

@@ -14,7 +14,7 @@ enum-told : tie.Need-enum-told
 enum-told c = search needs
 
 send-under-requires : tie.Need-send-under-requires
-send-under-requires c κs = c .before .before .before .before .before .read-card .ensures .0 .guaranteed (ap outcomeOf (c .before .before .before .enum-told .given .1)) .m-most
+send-under-requires c κs = c .before .before .before .before .before .read-card .ensures .guaranteed (ap outcomeOf (c .before .before .before .enum-told .given .1)) .m-most
 
 enum-known-verdict : tie.Need-enum-known-verdict
 enum-known-verdict c = search needs
@@ -33,15 +33,15 @@ returns c =
     let card = read .result .card in
     let accepted = ap outcomeOf (c .before .before .before .before .before .before .enum-told .given .1) in
     let burst = c .before .before .send-under in
-    by-card (a .card .now) (read .result) (read .ensures .0) (λ card. sendUnder card (a .input .now) (a .output .now)) (a .output .now) accepted
-    (outcome-is (burst .result) (sendUnder card (a .input .now) (a .output .now)) (burst .ok) (burst .ensures (card .counts) (card .checks) (card .number) (read .ensures .0 .guaranteed accepted)))
+    by-card (a .card .now) (read .result) (read .ensures) (λ card. sendUnder card (a .input .now) (a .output .now)) (a .output .now) accepted
+    (outcome-is (burst .result) (sendUnder card (a .input .now) (a .output .now)) (burst .ok) (burst .ensures (card .counts) (card .checks) (card .number) (read .ensures .guaranteed accepted)))
 
 returns-2 : tie.Need-returns-2
 unfolding sendOf
 returns-2 c =
     let a = c .before .before .before .before .before .before .before .before .args in
     let read = c .before .before .before .before .read-card in
-    refused-by-card (a .card .now) (read .result) (read .ensures .0) (λ card. sendUnder card (a .input .now) (a .output .now)) (a .output .now) (ap outcomeOf (c .before .before .verdict .given .1))
+    refused-by-card (a .card .now) (read .result) (read .ensures) (λ card. sendUnder card (a .input .now) (a .output .now)) (a .output .now) (ap outcomeOf (c .before .before .verdict .given .1))
     (answer-is (c .refused .result) (c .refused .ok) (c .refused .ensures))
 
 pub burst-send-spec : {M : Type 1} → statement M

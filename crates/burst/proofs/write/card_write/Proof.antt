@@ -19,7 +19,7 @@ enum-told c = search needs
 write-under-requires : tie.Need-write-under-requires
 write-under-requires c κs =
     let read = c .before .before .before .read-card in
-    omega (arith, accepted-length (read .ensures .0) (ap outcomeOf (c .before .enum-told .given .1)))
+    omega (arith, accepted-length (read .ensures) (ap outcomeOf (c .before .enum-told .given .1)))
 
 enum-known-verdict : tie.Need-enum-known-verdict
 enum-known-verdict c = search needs
@@ -37,7 +37,7 @@ returns c =
     let read = c .before .before .before .before .before .before .read-card in
     let answer = c .before .before .write-under in
     wrote-card (a .card .now) (a .output .now)
-    (by-card (a .card .now) (read .result) (read .ensures .0) (λ card. writeUnder card (a .output .now)) (a .output .now) (ap outcomeOf (c .before .before .before .before .enum-told .given .1))
+    (by-card (a .card .now) (read .result) (read .ensures) (λ card. writeUnder card (a .output .now)) (a .output .now) (ap outcomeOf (c .before .before .before .before .enum-told .given .1))
     (outcome-is (answer .result) (writeUnder (read .result .card) (a .output .now)) (answer .ok) (answer .ensures)))
 
 returns-2 : tie.Need-returns-2
@@ -46,7 +46,7 @@ returns-2 c =
     let a = c .before .before .before .before .before .before .before .args in
     let read = c .before .before .before .before .read-card in
     wrote-card (a .card .now) (a .output .now)
-    (refused-by-card (a .card .now) (read .result) (read .ensures .0) (λ card. writeUnder card (a .output .now)) (a .output .now) (ap outcomeOf (c .before .before .verdict .given .1))
+    (refused-by-card (a .card .now) (read .result) (read .ensures) (λ card. writeUnder card (a .output .now)) (a .output .now) (ap outcomeOf (c .before .before .verdict .given .1))
     (answer-is (c .refused .result) (c .refused .ok) (c .refused .ensures)))
 
 pub card-write-spec : {M : Type 1} → statement M

@@ -8,8 +8,8 @@ read-card-requires c κs = search needs
 
 returns : tie.Need-returns
 returns c =
-    let claim = c .read-card .ensures .1 in
-    (bytes-of-P _ _ claim, value-of-P _ _ claim)
+    let promise = c .read-card .ensures in
+    (bytes-of-P promise, value-of-P promise)
 
 pub p-has-one-form-spec : {M : Type 1} → statement M
 p-has-one-form-spec = tie.close (tie.spec read-card-requires returns)

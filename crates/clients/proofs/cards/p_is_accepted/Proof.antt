@@ -10,7 +10,7 @@ read-card-requires : tie.Need-read-card-requires
 read-card-requires c κs = search needs
 
 returns : tie.Need-returns
-returns c = (accepted-P _ (c .read-card .ensures .0), card-P _ (c .read-card .ensures .0))
+returns c = (accepted-P _ (c .read-card .ensures), card-P _ (c .read-card .ensures))
 
 pub p-is-accepted-spec : {M : Type 1} → statement M
 p-is-accepted-spec = tie.close (tie.spec slice-aggregate-read-card read-card-requires returns)

@@ -12,7 +12,7 @@ read-card-requires : tie.Need-read-card-requires
 read-card-requires c κs = search needs
 
 returns : tie.Need-returns
-returns c = ap (λ (x : CardOutcome). x .outcome) (c .read-card .ensures .0 .is-read) ∙ read-stated-P
+returns c = ap (λ (x : CardOutcome). x .outcome) (c .read-card .ensures .is-read) ∙ read-stated-P
 
 pub stored-p-is-refused-spec : {M : Type 1} → statement M
 stored-p-is-refused-spec =

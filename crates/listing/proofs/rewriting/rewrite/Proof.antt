@@ -19,15 +19,15 @@ returns c =
     rewrites-line (a .input .now) (a .output .now) (λ i. omega (arith, known .shared-slice-known .given i)) (too-long _ (c .before .before .if1 .taken))
     (c .too-long .ensures) (omega arith) (omega arith)
 
-read-under-requires : tie.Need-read-under-requires
-read-under-requires c κs = search needs
+read-card-requires : tie.Need-read-card-requires
+read-card-requires c κs = search needs
 
 enum-told : tie.Need-enum-told
 enum-told c = search needs
 
 write-anew-requires : tie.Need-write-anew-requires
 write-anew-requires c κs =
-    let read = c .before .before .before .read-under in
+    let read = c .before .before .before .read-card in
     (accepted-length (read .ensures) (ap outcomeOf (c .before .enum-told .given .1)), omega arith)
 
 enum-known-verdict : tie.Need-enum-known-verdict
@@ -39,7 +39,7 @@ refused-requires c κs = search needs
 returns-2 : tie.Need-returns-2
 unfolding rewrittenUnder
 returns-2 c =
-    let read = c .before .before .before .before .read-under in
+    let read = c .before .before .before .before .read-card in
     let tested = c .before .before .before .before .before in
     let known = tested .before in
     let a = known .before .args in
@@ -51,7 +51,7 @@ returns-2 c =
 returns-3 : tie.Need-returns-3
 unfolding rewrittenUnder
 returns-3 c =
-    let read = c .before .before .before .before .before .read-under in
+    let read = c .before .before .before .before .before .read-card in
     let tested = c .before .before .before .before .before .before in
     let known = tested .before in
     let a = known .before .args in
@@ -67,7 +67,7 @@ rewrite-spec =
     (tie.spec
     too-long-requires
     returns
-    read-under-requires
+    read-card-requires
     enum-told
     write-anew-requires
     enum-known-verdict
