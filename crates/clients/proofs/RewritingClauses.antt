@@ -1,13 +1,13 @@
 -- What the clauses of the rewriting's promise give for cards of the bench.
 use Prim.Native.Nat.{ℕ, _≤_}
-use mathlib.Core.Path.{_≡_, sym, ap, subst, _∙_}
+use mathlib.Core.Path.{_≡_, sym, ap, _∙_}
 use mathlib.Core.List.{List, _++_}
 use native.Mathlib.Omega.{arith}
 use lib.ListN.{length, take}
 use lib.Seq.{take-at}
 use Rattle.code.specs.Bench.{P}
 use Rattle.code.specs.declared.Card.{Card}
-use Rattle.card.specs.Bench.{checks, cardP, storedP}
+use Rattle.card.specs.Bench.{cardP, storedP}
 use Rattle.card.specs.Outcome.{Outcome, CardOutcome}
 use Rattle.card.specs.Outcome.Outcome.{accepted}
 use Rattle.card.specs.Reading.{readUnder, readCard}

@@ -1,28 +1,25 @@
 -- What a stored card is written as, case by case, and the promise of `rewrite`.
 use Prim.Native.Nat.{ℕ, _≤_, _<_}
-use mathlib.Core.Path.{_≡_, refl, sym, ap, ap₂, subst, _∙_}
-use mathlib.Core.Bool.{Bool, true, false, cond}
-use mathlib.Core.List.{List, [], _∷_, _++_}
+use mathlib.Core.Path.{_≡_, refl, sym, ap, subst, _∙_}
+use mathlib.Core.List.{List, _∷_, _++_}
 use mathlib.Core.Logic.{⊎-elim}
 use native.Mathlib.Omega.{arith}
 use lib.ListN.{length, getD, take, drop, length-take}
 use lib.Seq.{take-all}
 use lib.IntN.{pos}
 use lib.Signed.{mag}
-use lib.Dec.{ltb}
 use borrow.Author.Tests.{lt-ltb, le-ltb, le-leb, lt-leb}
 use Rattle.bits.proofs.Cases.{le-or-lt}
 use Rattle.code.specs.declared.Card.{Card}
 use Rattle.card.specs.Outcome.{Outcome, CardOutcome, accepted, refused}
 use Rattle.card.specs.Layout.{Acceptable}
-use Rattle.card.specs.Fields.{Fields, cardOf}
+use Rattle.card.specs.Fields.{cardOf}
 use Rattle.card.specs.Reading.{byteField, readHead, readFields, readUnder, readCard}
 use Rattle.card.specs.Written.{written}
-use Rattle.card.specs.declared.CardRule.{CardRule}
 use Rattle.card.specs.declared.CardRule.the-variants.{Former, Present}
 use Rattle.card.proofs.Acceptance.{accepted-fields, accepted-length, reads-back}
 use Rattle.card.proofs.RefusedCard.{not-both}
-use Rattle.outcomes.specs.Text.{text, spaced, line}
+use Rattle.outcomes.specs.Text.{text, line}
 use Rattle.outcomes.specs.Listing.{tooLongLine, refusedLine}
 use Rattle.outcomes.specs.Outcome.{BurstOutcome, outcome, givenOf}
 use Rattle.writer.specs.Claims.{ReadsUnder, ReadsAs}

@@ -1,8 +1,6 @@
 -- By the rule, what was read, and the test.
-use mathlib.Core.Path.{sym, ap}
 use borrow.Author.Tests.{eq-eqb, ne-eqb}
 use Rattle.card.specs.Reading.{standingField}
-use Rattle.card.specs.Parts.{fieldOf}
 use borrow.Author.Needs.{needs}
 use Rattle.card.proofs.fields.standing_field.Statement.{statement}
 use Rattle.card.proofs.fields.standing_field.Tie as tie

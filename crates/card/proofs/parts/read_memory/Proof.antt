@@ -1,6 +1,5 @@
 -- m, after the other fields of the head.
 use mathlib.Core.Path.{_∙_}
-use native.Mathlib.Omega.{arith}
 use Rattle.card.proofs.FieldValues.{has-value, has-fault}
 use Rattle.card.proofs.HeadStages.{refused-by, m-faulty, head-whole}
 use borrow.Author.Needs.{needs}
