@@ -122,7 +122,7 @@
  * - No memory is allocated, no file or device is touched, nothing is kept from one call to the next. So
  *   the functions may be called from several threads at once, each with an output of its own.
  * - A call takes less than BURST_STACK_BYTES of stack, most of it for the card that is being read:
- *   measured, 5,016 bytes by burst_send, 5,544 by burst_receive and 7,112 by card_write. `tests/run`
+ *   measured, 5,048 bytes by burst_send, 5,576 by burst_receive and 7,144 by card_write. `tests/run`
  *   measures it again.
  * - Each call ends. It takes time in proportion to the frames, after the reading of the card.
  * - Of the C library only memcpy and memset are needed.
@@ -162,7 +162,7 @@ enum burst_refusal {
     BURST_CHECK_COUNT_OUT_OF_RANGE = 7, /* J is not 1 to 16 */
     BURST_BYTES_AFTER_CHECKS = 10,      /* bytes are left after the last check */
 
-    /* The card is one of before, to be rewritten (or is damaged): */
+    /* The card has the form that was good before, and has to be rewritten (or it is damaged): */
     BURST_DEFAULT_STATED = 18,          /* it states k as 1 or n as 2; see "Cards written out" above */
 
     /* The card can be read, but a receiver that voted by it could spoil a burst: */

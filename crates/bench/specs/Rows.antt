@@ -65,6 +65,6 @@ pub record Rows : Type 0 where
   pub n-range-first : readCard (3 ∷ 7 ∷ 2 ∷ 2 ∷ []) .outcome ≡ refused 3 3
   pub k-range-first : readCard (3 ∷ 7 ∷ 0 ∷ 2 ∷ []) .outcome ≡ refused 2 2
   pub end-first : readCard (1 ∷ 7 ∷ []) .outcome ≡ refused 1 2
-  -- n 2 is the default of k 1 alone, and k 1 that of every n: what is not a default stands
+  -- what is not a default may stand: n 3, and k 2 with n 3; here m is cut short
   pub other-n : readCard (2 ∷ 7 ∷ 3 ∷ []) .outcome ≡ refused 1 3
   pub other-k : readCard (3 ∷ 7 ∷ 2 ∷ 3 ∷ []) .outcome ≡ refused 1 4

@@ -19,7 +19,7 @@ use Rattle.card.specs.Layout.{layout}
 unfoldable pub stated : ℕ → ℕ → ℕ
 stated default v = cond (eqb v default) 0 1
 
--- "k (default 1), n (default 2)"
+-- "Bit 0: k stands, else k is 1. Bit 1: n stands, else n is 2"
 abbrev pub headOf : ℕ → ℕ → ℕ → ℕ → Head
 headOf number k n m = record { kStands = stated 1 k; nStands = stated 2 n; number = number; k = k; n = n; m = m }
 

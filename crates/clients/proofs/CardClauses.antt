@@ -1,4 +1,4 @@
--- What the clauses of the card readers' promises give for cards of the bench.
+-- What the clauses of `read_card`'s promise give for cards of the bench.
 use Prim.Native.Nat.{ℕ, zero, suc, _+_, _-_, _^_, _≤_, _<_}
 use mathlib.Core.Path.{_≡_, refl, sym, ap, _∙_, subst}
 use mathlib.Core.List.{List, [], _∷_}

@@ -23,9 +23,9 @@ use Rattle.writer.specs.Outcome.{writeUnder, writeOf}
 use Rattle.writer.specs.Claims.{ReadsAs, States, WrittenForm, CarriesOn}
 use Rattle.writer.proofs.Answers.{write-refused, write-accepted, write-short, write-given}
 use Rattle.writer.proofs.Computed.{written-P, written-T}
-use Rattle.clients.specs.Cards.{fieldsP}
+use Rattle.clients.specs.Cards.{fieldsP, storedFieldsP}
 use Rattle.clients.specs.Forms.{FormOfP}
-use Rattle.clients.proofs.CardClauses.{acceptable-P}
+use Rattle.clients.proofs.CardClauses.{acceptable-P, acceptable-stored-P}
 
 -- ---- bytes that are read as a card whose written form is known
 module _ (bytes : List ℕ) (c : Card) (read : ReadsAs bytes c) (form : List ℕ) (known : written c ≡ form) (output : List ℕ) where
@@ -41,6 +41,13 @@ states-P =
     record {
       acceptable = acceptable-P;
       card-is = ap (λ (r : CardOutcome). r .card) (sym (reads-back Present cardP fieldsP acceptable-P) ∙ read-P);
+    }
+
+states-stored-P : States Former P storedP storedFieldsP
+states-stored-P =
+    record {
+      acceptable = acceptable-stored-P;
+      card-is = ap (λ (r : CardOutcome). r .card) (sym (reads-back Former storedP storedFieldsP acceptable-stored-P) ∙ read-stored-P);
     }
 
 -- ---- `card_write`
@@ -90,4 +97,5 @@ module _ (read : CardRead) (promise : CardPromise Former storedP read) where
         one-only = form .one-only cardP fieldsP states-P;
         length-most = form .length-most Former storedP read-stored-P;
         shortest = form .shortest Present cardP fieldsP states-P;
+        shorter-than-stored = form .shortest Former storedP storedFieldsP states-stored-P;
       }

@@ -16,3 +16,4 @@ pub record FormOfP : Type 0 where
   pub one-only : written P ≡ cardP
   pub length-most : length (written P) ≤ 1163
   pub shortest : length (written P) ≤ 20
+  pub shorter-than-stored : length (written P) ≤ 22

@@ -16,7 +16,7 @@ use Rattle.outcomes.specs.Listing.{tooLongLine, refusedLine}
 use Rattle.writer.specs.Claims.{ReadsUnder, ReadsAs}
 use Rattle.listing.specs.AtFront.{AtFront}
 
--- what a card is written as
+-- by what its reading came to: its written form, or the refusal's line
 unfoldable pub rewrittenUnder : Outcome → Card → List ℕ
 rewrittenUnder accepted c = written c
 rewrittenUnder (refused number offset) c = refusedLine number offset
