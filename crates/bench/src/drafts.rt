@@ -12,8 +12,8 @@ pub(crate) struct Draft {
     pub len: usize,
 }
 
-// A card by the letter that the bench's rows have for it; a small letter is for a card that is not accepted under the present rule. Any other byte names the card
-// of no bytes.
+// A card by the letter that the bench's rows have for it; a small letter is for a card that is not accepted under the present rule. Any other
+// byte names the card of no bytes.
 pub(crate) fn named(letter: u8) -> Draft {
     match letter {
         b'P' => document::p(),

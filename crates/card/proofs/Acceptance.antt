@@ -14,7 +14,7 @@ use Rattle.card.specs.Layout.{layout, Acceptable}
 use Rattle.card.specs.Promise.{EqualCards, CardPromise}
 use Rattle.card.specs.declared.CardRead.{CardRead}
 use Rattle.card.specs.declared.CardRule.{CardRule}
-use Rattle.card.specs.declared.CardRule.the-variants.{Present}
+use Rattle.card.specs.declared.CardRule.the-variants.{Former, Present}
 use Rattle.card.proofs.WholeReading.{accepted-read}
 use Rattle.card.proofs.Orthogonality.{standing-truly}
 use Rattle.card.proofs.Limits.{read-in, read-standing}
@@ -57,6 +57,11 @@ module _ (rule : CardRule) (bs : List ℕ) where
   pub reads-back : (f : Fields) → Acceptable rule bs f → readUnder rule bs ≡ record { outcome = accepted; card = cardOf f }
   unfolding readUnder
   reads-back f a = ap answer (fields-back rule bs f a .1)
+
+-- ---- the two rules: what is acceptable under the present one was acceptable before
+pub acceptable-before : (bs : List ℕ) (f : Fields) → Acceptable Present bs f → Acceptable Former bs f
+acceptable-before bs f a =
+    record { limits = record { ranges = a .limits .ranges; defaults = tt }; orthogonal = a .orthogonal; bytes-are = a .bytes-are }
 
 -- ---- two cards
 one-form : (bs : List ℕ) → ((i : ℕ) → getD bs i 0 < 256) → (other : List ℕ) → ((i : ℕ) → getD other i 0 < 256) → readCard bs .outcome ≡ accepted

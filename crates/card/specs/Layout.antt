@@ -113,6 +113,7 @@ abbrev pub DefaultsIn : CardRule → Fields → Type 0
 DefaultsIn Former f = Unit {0}
 DefaultsIn Present f = StatesNoDefault f
 
+-- within the limits: in the ranges, and what the rule demands of the defaults
 pub record InLimits (rule : CardRule) (f : Fields) : Type 0 where
   pub ranges : InRanges f
   pub defaults : DefaultsIn rule f

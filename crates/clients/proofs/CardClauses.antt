@@ -17,7 +17,7 @@ use Rattle.card.specs.Bench.{cardP, storedP}
 use Rattle.card.specs.Fields.{Fields, store, storeRows, storeChecks, storeStreams, storeCounts, cardOf}
 use Rattle.card.specs.Layout.{bytes4, stands, mapOf, layoutMasks, optional, layoutHead, allRows, layoutRows, layoutChecks, layoutStreams, layout, MasksIn, InRanges, Acceptable}
 use Rattle.card.specs.Outcome.{outcomeOf, CardOutcome}
-use Rattle.card.specs.Outcome.Outcome.{accepted}
+use Rattle.card.specs.Outcome.Outcome.{accepted, refused}
 use Rattle.card.specs.Promise.{EqualCards, CardPromise}
 use Rattle.card.specs.Reading.{readCard}
 use Rattle.card.specs.declared.CardRead.{CardRead}
@@ -25,7 +25,7 @@ use Rattle.card.specs.declared.CardRule.{CardRule}
 use Rattle.card.specs.declared.CardRule.the-variants.{Former, Present}
 use Rattle.card.proofs.Acceptance.{reads-back}
 use Rattle.card.proofs.RefusedCard.{not-both}
-use Rattle.outcomes.proofs.ReadCards.{wrongT, read-P, read-wrong-T, read-stored-P}
+use Rattle.outcomes.proofs.ReadCards.{wrongT, read-P, read-wrong-T, read-stored-P, read-stated-P}
 use Rattle.clients.specs.Cards.{stating, fieldsP, storedFieldsP}
 
 -- ---- P is acceptable, shown without reading it
@@ -125,6 +125,14 @@ module _ (r : CardRead) (promise : CardPromise Former storedP r) where
   card-stored-P =
       let found = promise .only-these accepted-stored-P in
       found .1 .card-is ∙ ap (λ (x : CardOutcome). x .card) (sym (reads-back Former storedP (found .0) (found .1 .acceptable)) ∙ read-stored-P)
+
+-- .. and under the present one
+module _ (r : CardRead) (promise : CardPromise Present storedP r) where
+  pub refused-stored-P : outcomeOf (r .verdict) ≡ refused 18 2
+  refused-stored-P = ap (λ (x : CardOutcome). x .outcome) (promise .is-read) ∙ read-stated-P
+
+  pub outside-P : (f : Fields) → Acceptable Present storedP f → ⊥
+  outside-P f a = not-both (promise .all-these f a) refused-stored-P
 
 -- they are bytes
 small-P : (i : ℕ) → getD cardP i 0 < 256

@@ -4,7 +4,10 @@ ghost use Rattle.code.specs.Bench as Bench;
 ghost use Rattle.card.specs.Outcome.{outcomeOf};
 ghost use Rattle.card.specs.Outcome.Outcome.{accepted, refused};
 ghost use Rattle.code.specs.Guarantees.{Guarantees};
-ghost use Rattle.card.specs.Bench.{cardP};
+ghost use Rattle.card.specs.Bench.{cardP, storedP};
+ghost use Rattle.card.specs.Fields.{Fields};
+ghost use Rattle.card.specs.Layout.{Acceptable};
+ghost use Rattle.card.specs.declared.CardRule.{CardRule};
 use card::CardRead;
 use card::CardRule;
 
@@ -36,9 +39,10 @@ pub fn p_has_one_form(bytes: &[u8]) -> CardRead
     card::read_card(CardRule::Present, bytes)
 }
 
-// P with its defaults stated: `is-read`.
+// P with its defaults stated: `is-read`. So it lies outside the limits, whatever its fields are said to be: `all-these`.
 pub fn stored_p_is_refused() -> CardRead
     ensures { λ r. ⌜ outcomeOf (r .verdict) ≡ refused 18 2 ⌝ }
+    ensures { λ _. ⌜ ((f : Fields) → Acceptable CardRule.Present storedP f → ⊥) ⌝ }
 {
     card::read_card(CardRule::Present, &STORED_P)
 }

@@ -12,12 +12,11 @@ use borrow.Author.Tests.{lt-ltb, le-ltb, le-leb, lt-leb}
 use Rattle.bits.proofs.Cases.{le-or-lt}
 use Rattle.code.specs.declared.Card.{Card}
 use Rattle.card.specs.Outcome.{Outcome, CardOutcome, accepted, refused}
-use Rattle.card.specs.Layout.{Acceptable}
 use Rattle.card.specs.Fields.{cardOf}
 use Rattle.card.specs.Reading.{byteField, readHead, readFields, readUnder, readCard}
 use Rattle.card.specs.Written.{written}
 use Rattle.card.specs.declared.CardRule.the-variants.{Former, Present}
-use Rattle.card.proofs.Acceptance.{accepted-fields, accepted-length, reads-back}
+use Rattle.card.proofs.Acceptance.{accepted-fields, accepted-length, reads-back, acceptable-before}
 use Rattle.card.proofs.RefusedCard.{not-both}
 use Rattle.outcomes.specs.Text.{text, line}
 use Rattle.outcomes.specs.Listing.{tooLongLine, refusedLine}
@@ -83,9 +82,7 @@ module _ (input : List ℕ) (bytes : (i : ℕ) → getD input i 0 < 256) where
   as-it-stands e =
       let a = accepted-fields Present input bytes e in
       let f = a .0 in
-      let good : Acceptable Former input f =
-      record { limits = record { ranges = a .1 .limits .ranges; defaults = tt }; orthogonal = a .1 .orthogonal; bytes-are = a .1 .bytes-are } in
-      stored (cardOf f) (reads-back Former input f good)
+      stored (cardOf f) (reads-back Former input f (acceptable-before input f (a .1)))
       ∙ written-form (cardOf f) .one-only input f (record { acceptable = a .1; card-is = refl })
 
 by-the-front : (input whole : List ℕ) → input ≡ take 2049 whole → rewritten whole ≡ rewritten input

@@ -1,6 +1,4 @@
-use mathlib.Core.Path.{ap, _∙_}
-use Rattle.card.specs.Outcome.{CardOutcome}
-use Rattle.outcomes.proofs.ReadCards.{read-stated-P}
+use Rattle.clients.proofs.CardClauses.{refused-stored-P, outside-P}
 use borrow.Author.Needs.{needs}
 use Rattle.clients.proofs.cards.stored_p_is_refused.Statement.{statement}
 use Rattle.clients.proofs.cards.stored_p_is_refused.Tie as tie
@@ -12,7 +10,7 @@ read-card-requires : tie.Need-read-card-requires
 read-card-requires c κs = search needs
 
 returns : tie.Need-returns
-returns c = ap (λ (x : CardOutcome). x .outcome) (c .read-card .ensures .is-read) ∙ read-stated-P
+returns c = (refused-stored-P _ (c .read-card .ensures), outside-P _ (c .read-card .ensures))
 
 pub stored-p-is-refused-spec : {M : Type 1} → statement M
 stored-p-is-refused-spec =
