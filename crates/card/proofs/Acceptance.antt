@@ -9,7 +9,8 @@ use Rattle.card.specs.Outcome.{CardOutcome, outcomeOf, published}
 use Rattle.card.specs.Outcome.Outcome.{accepted}
 use Rattle.code.specs.Guarantees.{Guarantees}
 use Rattle.card.specs.Fields.{Fields, cardOf}
-use Rattle.card.specs.Reading.{answer, readUnder, readCard}
+use Rattle.card.specs.Reading.{readFields, answer, readUnder, readCard}
+use Rattle.card.specs.Reading.Read.{got}
 use Rattle.card.specs.Layout.{layout, Acceptable}
 use Rattle.card.specs.Promise.{EqualCards, CardPromise}
 use Rattle.card.specs.declared.CardRead.{CardRead}
@@ -26,19 +27,16 @@ use Rattle.card.proofs.Defaults.{same-fields}
 
 module _ (rule : CardRule) (bs : List ℕ) where
   -- ---- an accepted card
+  pub read-acceptable : (f : Fields) (at : ℕ) → readFields rule bs ≡ got f at → bs ≡ layout f → Acceptable rule bs f
+  read-acceptable f at e laid =
+      let w = read-in rule bs f at e in
+      record { limits = w; orthogonal = standing-truly f (w .ranges) (read-standing rule bs f at e); bytes-are = laid }
+
   pub accepted-fields : ((i : ℕ) → getD bs i 0 < 256) → readUnder rule bs .outcome ≡ accepted
       → (f : Fields) × Acceptable rule bs f × (readUnder rule bs .card ≡ cardOf f)
   accepted-fields bytes e =
       let a = accepted-read rule bs e in
-      let w = read-in rule bs (a .0) (a .1) (a .2) in (
-        a .0,
-        record {
-          limits = w;
-          orthogonal = standing-truly (a .0) (w .ranges) (read-standing rule bs (a .0) (a .1) (a .2));
-          bytes-are = read-laid bs bytes rule (a .0) (a .1) (a .2);
-        },
-        a .3,
-      )
+      (a .0, read-acceptable (a .0) (a .1) (a .2) (read-laid bs bytes rule (a .0) (a .1) (a .2)), a .3)
 
   pub accepted-length : ((i : ℕ) → getD bs i 0 < 256) → readUnder rule bs .outcome ≡ accepted → length bs ≤ 1163
   accepted-length bytes e =

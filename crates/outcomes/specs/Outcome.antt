@@ -2,9 +2,11 @@
 -- output bytes are written.") and "Orders" ("A refused call hands back the number, .. and lent bytes unaltered").
 -- Assumes nothing.
 use Prim.Native.Nat.{ℕ}
+use mathlib.Core.Bool.{cond}
 use mathlib.Core.List.{List, _++_}
 use lib.ListN.{length, drop}
 use lib.IntN.{ℤ, pos, negℤ}
+use lib.Dec.{ltb}
 use Rattle.card.specs.Outcome.{Outcome, accepted, refused}
 
 -- the answer, and the output bytes as the call leaves them
@@ -22,6 +24,10 @@ refusedOf n output = outcome (negℤ (pos n)) output
 -- the count of these frames, which stand at the front of the output, and the rest of it as it was
 unfoldable pub givenOf : List ℕ → List ℕ → BurstOutcome
 givenOf frames output = outcome (pos (length frames)) (frames ++ drop (length frames) output)
+
+-- these bytes, where the output has room for them all, else 13
+unfoldable pub fitted : List ℕ → List ℕ → BurstOutcome
+fitted bytes output = cond (ltb (length output) (length bytes)) (refusedOf 13 output) (givenOf bytes output)
 
 -- "Bursts: card, then ..": the card's refusal, or what the burst comes to under the card
 unfoldable pub underCard : Outcome → BurstOutcome → List ℕ → BurstOutcome

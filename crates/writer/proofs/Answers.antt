@@ -2,13 +2,10 @@
 use Prim.Native.Nat.{ℕ, zero, suc, _-_, _≤_, _<_, min}
 use mathlib.Core.Path.{_≡_, refl, sym, ap, ap₂, _∙_}
 use mathlib.Core.List.{List, [], _∷_, _++_}
-use mathlib.Core.Logic.{⊎-elim}
 use native.Mathlib.Omega.{arith}
 use lib.ListN.{length, drop, length-append}
 use lib.IntN.{pos, negℤ, pos-ne-negsuc}
 use lib.Signed.{mag}
-use borrow.Author.Tests.{lt-ltb, le-ltb}
-use Rattle.bits.proofs.Cases.{le-or-lt}
 use Rattle.code.specs.declared.Card.{Card}
 use Rattle.card.specs.Layout.{layoutHead, layoutRows, layoutStreams, layout}
 use Rattle.card.specs.Outcome.{Outcome, CardOutcome}
@@ -19,7 +16,7 @@ use Rattle.card.specs.declared.Refusal.{Refusal}
 use Rattle.card.proofs.CardLength.{head-size}
 use Rattle.outcomes.specs.Outcome.{BurstOutcome, outcome, refusedOf, givenOf, underCard}
 use Rattle.outcomes.specs.Wrote.{Wrote}
-use Rattle.outcomes.proofs.Outcomes.{refused-is, given-is}
+use Rattle.outcomes.proofs.Outcomes.{refused-is, given-is, fitted-short, fitted-given}
 use Rattle.outcomes.proofs.Writing.{wrote-as, wrote-length, wrote-front}
 use Rattle.card.specs.Written.{fieldsWith, fieldsOf, written}
 use Rattle.writer.specs.Outcome.{answerOf, writeUnder, writeOf}
@@ -51,11 +48,11 @@ no-refusal (suc n) count h e = pos-ne-negsuc count n (sym e)
 module _ (c : Card) (output : List ℕ) where
   pub write-short : length output < length (written c) → writeUnder c output ≡ refusedOf 13 output
   unfolding writeUnder
-  write-short l = rw (lt-ltb (length output) (length (written c)) l)
+  write-short = fitted-short (written c) output
 
   pub write-given : length (written c) ≤ length output → writeUnder c output ≡ givenOf (written c) output
   unfolding writeUnder
-  write-given l = rw (le-ltb (length output) (length (written c)) l)
+  write-given = fitted-given (written c) output
 
   -- no call with room enough is refused
   pub never-refused : (refusal : Refusal) {after : List ℕ} → length (written c) ≤ length output → outcome (answerOf (Refused refusal)) after ≡ writeUnder c output
@@ -63,18 +60,6 @@ module _ (c : Card) (output : List ℕ) where
   unfolding givenOf
   never-refused refusal l e =
       no-refusal (numberOf refusal) (length (written c)) (written-some c) (ap (λ (b : BurstOutcome). b .answer) (e ∙ write-given l))
-
-  -- a count that is answered is that of the written bytes, which stand in the output
-  module _ {n : ℕ} {after : List ℕ} (e : outcome (pos n) after ≡ writeUnder c output) where
-    pub answered : outcome (pos n) after ≡ givenOf (written c) output
-    unfolding refusedOf
-    answered =
-        ⊎-elim (λ l. e ∙ write-given l) (λ l. absurd (pos-ne-negsuc n 12 (ap (λ (b : BurstOutcome). b .answer) (e ∙ write-short l))))
-        (le-or-lt (length (written c)) (length output))
-
-    pub count-is : n ≡ length (written c)
-    unfolding givenOf
-    count-is = ap (λ (b : BurstOutcome). mag (b .answer)) answered
 
 -- ---- what was laid out
 

@@ -3,8 +3,7 @@ use Prim.Native.Nat.{ℕ, zero, suc, _≤_, _<_}
 use mathlib.Core.Path.{_≡_, refl, sym, ap, _∙_}
 use mathlib.Core.List.{List}
 use native.Mathlib.Omega.{arith}
-use lib.ListN.{length, take, drop}
-use lib.Seq.{take-at}
+use lib.ListN.{length, take}
 use lib.IntN.{ℤ, pos, pos-ne-negsuc}
 use lib.Signed.{mag}
 use Rattle.code.specs.declared.Card.{Card}
@@ -22,7 +21,8 @@ use Rattle.outcomes.specs.Outcome.{BurstOutcome, outcome, refusedOf, givenOf}
 use Rattle.card.specs.Written.{written}
 use Rattle.writer.specs.Outcome.{writeUnder, writeOf}
 use Rattle.writer.specs.Claims.{ReadsUnder, CarriesOn}
-use Rattle.writer.proofs.Answers.{write-refused, write-accepted, write-given, answered, count-is}
+use Rattle.outcomes.proofs.Outcomes.{front-is}
+use Rattle.writer.proofs.Answers.{write-refused, write-accepted, write-given}
 use Rattle.writer.proofs.Forms.{written-form}
 
 -- ---- an answer above zero
@@ -33,10 +33,8 @@ module _ (output : List ℕ) {after : List ℕ} (n : ℕ) (positive : 0 < n) whe
   not-refused (suc m) e = pos-ne-negsuc n m (ap (λ (b : BurstOutcome). b .answer) e)
 
   written-bytes : (c : Card) → outcome (pos n) after ≡ writeUnder c output → take n after ≡ written c
-  unfolding givenOf
-  written-bytes c e =
-      ap (λ (b : BurstOutcome). take n (b .output)) (answered c output e)
-      ∙ take-at (written c) (drop (length (written c)) output) n (sym (count-is c output e))
+  unfolding writeUnder
+  written-bytes c e = front-is (written c) output e
 
   read-back : (card : List ℕ) (o : Outcome) (c : Card) → readCard card ≡ record { outcome = o; card = c }
       → outcome (pos n) after ≡ writeOf card output → readCard (take n after) ≡ readCard card

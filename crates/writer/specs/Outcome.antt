@@ -2,15 +2,12 @@
 -- output too short is 13, as in a burst").
 -- Assumes nothing.
 use Prim.Native.Nat.{ℕ}
-use mathlib.Core.Bool.{cond}
 use mathlib.Core.List.{List}
-use lib.ListN.{length}
 use lib.IntN.{ℤ, pos, negℤ}
-use lib.Dec.{ltb}
 use Rattle.code.specs.declared.Card.{Card}
 use Rattle.card.specs.Refusals.{numberOf}
 use Rattle.card.specs.Reading.{readCard}
-use Rattle.outcomes.specs.Outcome.{BurstOutcome, refusedOf, givenOf, underCard}
+use Rattle.outcomes.specs.Outcome.{BurstOutcome, fitted, underCard}
 use Rattle.card.specs.Written.{written}
 use Rattle.writer.specs.declared.CardWritten.{CardWritten}
 use Rattle.writer.specs.declared.CardWritten.the-variants.{Count, Refused}
@@ -22,7 +19,7 @@ answerOf (Refused refusal) = negℤ (pos (numberOf refusal))
 
 -- the card c
 unfoldable pub writeUnder : Card → List ℕ → BurstOutcome
-writeUnder c output = cond (ltb (length output) (length (written c))) (refusedOf 13 output) (givenOf (written c) output)
+writeUnder c output = fitted (written c) output
 
 -- the card that the bytes state: "the card's refusals, then 13, else the count"
 unfoldable pub writeOf : List ℕ → List ℕ → BurstOutcome

@@ -1,0 +1,2 @@
+pub mod SelfOrthogonal
+pub mod Standard
