@@ -1,4 +1,4 @@
-// What the controller firmware calls: whole bursts of frames, and a card written out.
+// What the controller firmware calls: whole bursts of frames, a card written out, and the standard cards.
 mod answer;
 pub mod receive;
 mod registers;

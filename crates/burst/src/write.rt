@@ -1,4 +1,4 @@
-// Writing a card: a card's bytes in, its one written form out.
+// Writing a card: one whose bytes are given, in its one written form, or a standard one.
 ghost use mathlib.Core.Path.{_≡_};
 ghost use Prim.Native.Nat.{_≤_};
 ghost use lib.ListN.{length};
@@ -7,23 +7,19 @@ ghost use Rattle.outcomes.specs.Outcome.{outcome};
 ghost use Rattle.card.specs.Written.{written};
 ghost use Rattle.writer.specs.Outcome.{writeUnder, writeOf};
 ghost use Rattle.writer.specs.Claims.{CarriesOn};
-use crate::answer::counted;
+ghost use Rattle.standard.specs.Standard.{standardOf, StandardCards};
+use crate::answer::answered;
 use crate::answer::refused;
 use card::CardRule;
 use card::Verdict;
 use code::Card;
-use writer::CardWritten;
 
 // An accepted card.
 fn write_under(card: Card, output: &mut [u8]) -> i32
     requires { ⌜ length (written card) ≤ mostFrames ⌝ }
     ensures { λ r. ⌜ outcome r (now (output .exit)) ≡ writeUnder card (now (output .entry)) ⌝ }
 {
-    let answer = writer::write_card(card, output);
-    match answer {
-        CardWritten::Count(count) => counted(count),
-        CardWritten::Refused(refusal) => refused(refusal),
-    }
+    answered(writer::write_card(card, output))
 }
 
 // Writes the card that the bytes state: the count of bytes, or minus the refusal. Only that many bytes of the output are written, and a refused
@@ -39,4 +35,14 @@ pub extern "C" fn card_write(card: &[u8], output: &mut [u8]) -> i32
         Verdict::Accepted => write_under(read.card, output),
         Verdict::Refused { refusal, offset: _ } => refused(refusal),
     }
+}
+
+// Writes the standard card with this many checks: the count of bytes, 0 where there is no such card, or minus 13 where the output is too short.
+// Only that many bytes of the output are written, and a refused call writes none.
+#[no_mangle]
+pub extern "C" fn standard_card(checks: u32, output: &mut [u8]) -> i32
+    ensures { λ r. ⌜ outcome r (now (output .exit)) ≡ standardOf checks (now (output .entry)) ⌝ }
+    ensures { λ _. ⌜ StandardCards ⌝ }
+{
+    answered(standard::write_standard(checks, output))
 }
