@@ -1,8 +1,8 @@
-/* burst.h: convolutional coding and threshold decoding of whole bursts, for controller firmware; and link
- * cards written out, to be carried from one unit to the next.
+/* burst.h: convolutional coding and threshold decoding of whole bursts, for controller firmware; link cards
+ * written out, to be carried from one unit to the next; and the standard cards.
  *
  * Link with libburst.a (`rt staticlib burst` writes it to target/staticlib/), on x86-64. C99 or later, or C++.
- * examples/firmware.c is a whole program over this header.
+ * examples/firmware.c is a whole program over this header, and examples/standard_card.c a smaller one.
  *
  *
  * In short
@@ -15,8 +15,8 @@
  *     burst_receive   received frames, in         ->  information frames, out, corrected
  *
  * Which code is used, and how the receiver votes on each digit, stands on a link card: a row of 15
- * to 1,163 bytes that you get with the probe. Each function takes the card's bytes at each call,
- * reads them and tests them; there is nothing to open, to keep or to close.
+ * to 1,163 bytes that you get with the probe, or from standard_card below. Each function that works by a
+ * card takes its bytes at each call, reads them and tests them; there is nothing to open, to keep or to close.
  *
  *     uint8_t link[3 + BURST_MOST_MEMORY], came[3];
  *     int32_t sent = burst_send(card, sizeof card, information, 3, link, sizeof link);
@@ -32,6 +32,11 @@
  * are stored and carried (see "Cards written out" below):
  *
  *     card_write      a card, in                  ->  the same card, written out
+ *
+ * A fourth has the cards that most sites take, and is told only how many checks the card is to have (see
+ * "Standard cards" below):
+ *
+ *     standard_card   a number of checks, in      ->  the standard card with so many, out
  *
  *
  * Frames
@@ -78,21 +83,53 @@
  * - BURST_MOST_CARD_BYTES bytes of output are enough for every card, and so are card_length bytes.
  *
  * Once a card could state k as 1 and n as 2. A stored card that does is refused now, by every function
- * here, and isn't lost: the program `rewrite` reads such a card from its standard input and writes it anew,
- * a byte shorter for each, to its standard output. `./rewrite-cards FILE..` does this for stored files.
+ * here that takes a card, and isn't lost: the program `rewrite` reads such a card from its standard input and
+ * writes it anew, a byte shorter for each, to its standard output. `./rewrite-cards FILE..` does this for
+ * stored files.
+ *
+ *
+ * Standard cards
+ * --------------
+ * Who has no card of his own takes a standard one. There are six, all with k 1 and n 2: one for each number of
+ * checks J from 2 to 7, which is the card's number too. So a site settles on a J, and nothing else:
+ *
+ *     J     m   bytes   wrong digits put right
+ *     2     1      20   1
+ *     3     3      25   1
+ *     4     7      30   2
+ *     5    12      35   2
+ *     6    20      40   3
+ *     7    30      45   3
+ *
+ * More checks put more wrong digits right (see "What is corrected" below), and cost a longer memory: the tail
+ * has m frames, and a digit is known only when the m frames after it have come.
+ *
+ *     uint8_t card[BURST_MOST_STANDARD_CARD_BYTES];
+ *     int32_t length = standard_card(6, card, sizeof card);
+ *     if (length <= 0)
+ *         return show_no_card();
+ *     int32_t sent = burst_send(card, (size_t)length, information, 3, link, sizeof link);
+ *
+ * - Each of them is a good card: every function here that takes a card accepts it.
+ * - For another J there is no standard card. The answer is then 0, whatever the output is.
+ * - Probe and unit must use the same J: a burst doesn't say by which card it was sent.
+ *
+ * docs/STANDARD_CARDS.md says what stands on these cards, where they come from, and how to choose a J.
  *
  *
  * The answer
  * ----------
- * 0 or more: the count of output bytes, which are frames, one byte each, or from card_write a card. Just
- * that many bytes of the output were written, from its first byte on; those beyond are as they were.
+ * 0 or more: the count of output bytes, which are frames, one byte each, or from card_write and standard_card
+ * a card. Just that many bytes of the output were written, from its first byte on; those beyond are as they
+ * were. No card has 0 bytes: from standard_card 0 means that there is no such card.
  *
  * Less than 0: minus the number of a refusal, one of enum burst_refusal. Nothing was written.
  *
  * Every possible input has one of these answers: there is nothing that you must test before the call,
  * provided each pointer and length tell the truth (see "What you owe" below). Which refusal is met
  * first is fixed too: the card's (1 to 10 and 18, in the order of its bytes), then 15, then 13, then 11.
- * From card_write there are the card's, then 13.
+ * From card_write there are the card's, then 13. standard_card takes no card and no input, so from it there
+ * is 13 alone.
  *
  *
  * What is corrected
@@ -111,7 +148,7 @@
  * - Each pointer points to as many bytes as the length after it says, and that memory is yours for the
  *   whole call: nobody else writes the card, the input or the output while it runs.
  * - The output overlaps neither the card nor the input. (Card and input may overlap.) So a card can't be
- *   written over itself: write it elsewhere, and copy it.
+ *   written over itself: write it elsewhere, and copy it. (standard_card has an output only.)
  * - With length 0 the pointer isn't looked at, and may be null. With any other length it may not be null.
  * - No pointer needs to be aligned. A length is at most PTRDIFF_MAX, as for every object in C.
  *
@@ -122,9 +159,10 @@
  * - No memory is allocated, no file or device is touched, nothing is kept from one call to the next. So
  *   the functions may be called from several threads at once, each with an output of its own.
  * - A call takes less than BURST_STACK_BYTES of stack, most of it for the card that is being read:
- *   measured, 5,048 bytes by burst_send, 5,576 by burst_receive and 7,144 by card_write. `tests/run`
- *   measures it again.
- * - Each call ends. It takes time in proportion to the frames, after the reading of the card.
+ *   measured, 5,048 bytes by burst_send, 5,576 by burst_receive and 7,144 by card_write; by standard_card,
+ *   which reads none, NNN. `tests/run` measures it again.
+ * - Each call ends. It takes time in proportion to the frames, after the reading of the card; standard_card
+ *   has neither.
  * - Of the C library only memcpy and memset are needed.
  *
  * The answer and every byte of the output are proved, for every input, of the code in crates/. No proof
@@ -148,6 +186,11 @@ extern "C" {
 #define BURST_MOST_CARD_BYTES 1163       /* no card that is accepted is longer */
 #define BURST_MOST_FRAMES 1048576        /* frames of a burst as it is sent, with its tail */
 #define BURST_STACK_BYTES 12288          /* stack, for a call */
+
+/* The limits of standard cards. */
+#define BURST_LEAST_STANDARD_CHECKS 2     /* J of the first standard card */
+#define BURST_MOST_STANDARD_CHECKS 7      /* J of the last one */
+#define BURST_MOST_STANDARD_CARD_BYTES 45 /* no standard card is longer */
 
 /* Why a call is refused: the answer is minus one of these. The numbers are published and stay. (The
  * missing ones, 12, 14, 16 and 17, belong to calls that receive or send frame by frame.) */
@@ -207,6 +250,15 @@ int32_t burst_receive(const uint8_t *card, size_t card_length,
  * as burst_send refuses it, or else BURST_OUTPUT_TOO_SHORT. */
 int32_t card_write(const uint8_t *card, size_t card_length,
                    uint8_t *output, size_t output_length);
+
+/* Gives a standard card: its number of checks in, its bytes out; see "Standard cards" above.
+ *
+ *   checks                  J, from BURST_LEAST_STANDARD_CHECKS to BURST_MOST_STANDARD_CHECKS
+ *   output, output_length   receives the card; BURST_MOST_STANDARD_CARD_BYTES are always room enough
+ *
+ * Answers the count of output bytes, which is 5 * checks + 10; or 0, with nothing written, if there is no standard
+ * card with so many checks; or else minus BURST_OUTPUT_TOO_SHORT. */
+int32_t standard_card(uint32_t checks, uint8_t *output, size_t output_length);
 
 #ifdef __cplusplus
 }
