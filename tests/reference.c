@@ -275,18 +275,22 @@ static struct writer written_form(const struct fields *card)
     return w;
 }
 
+/* "The answer is the count of bytes, only that many are written, and output too short is 13." */
+static int32_t write_into(const struct fields *card, uint8_t *output, size_t output_length)
+{
+    struct writer w = written_form(card);
+    if (output_length < w.count)
+        return -13;
+    memcpy(output, w.bytes, w.count);
+    return (int32_t)w.count;
+}
+
 /* Since R-4 an accepted card is written as it stands: here by taking it apart and writing its fields, all the same. */
 int32_t reference_card_write(const uint8_t *card_bytes, size_t card_length, uint8_t *output, size_t output_length)
 {
     struct fields card;
     int refusal = reference_read_card(card_bytes, card_length, &card).refusal;
-    if (refusal)
-        return -refusal;
-    struct writer w = written_form(&card);
-    if (output_length < w.count)
-        return -13;
-    memcpy(output, w.bytes, w.count);
-    return (int32_t)w.count;
+    return refusal ? -refusal : write_into(&card, output, output_length);
 }
 
 /* ---- Stored cards rewritten (document 02, R-4) ---- */
@@ -383,6 +387,54 @@ static struct frame decide_errors(const struct fields *card, const struct frame 
         out.digit[i] = (received[u].digit[i] + decided[u].digit[i]) % 2;
     }
     return out;
+}
+
+/* ---- Standard cards (document 02, R-5; the report's section 3.5) ---- */
+
+/* The errors that the syndrome s(a, 1) contains, by what a syndrome is: with that digit alone wrong it is 1. Zeros are
+ * taken as sent, since a syndrome depends on the wrong digits only. */
+static struct touched errors_in_syndrome(const struct fields *card, int a)
+{
+    struct touched contained;
+    memset(&contained, 0, sizeof contained);
+    for (int b = 0; b <= a; b++)
+        for (int s = 1; s <= card->n; s++) {
+            struct frame received[MOST_MEMORY + 1];
+            memset(received, 0, sizeof received);
+            received[b].digit[s] = 1;
+            contained.error[b][s] = syndrome(card, received, a, 1);
+        }
+    return contained;
+}
+
+/* Takes the term of offset a, with its syndrome as the next check, exactly if the syndrome shares no error with the
+ * checks already taken, apart from digit 0. */
+static void try_term(struct fields *card, int a, struct touched by_check[])
+{
+    int q = card->J[1] + 1, last_taken = card->m;
+    card->g[1][1][a] = 1;
+    card->m = a;
+    by_check[q] = errors_in_syndrome(card, a);
+    if (clashes(card, 1, q, by_check)) {
+        card->g[1][1][a] = 0;
+        card->m = last_taken;
+    } else {
+        card->check[1][q][1][a] = 1;
+        card->J[1] = q;
+    }
+}
+
+/* That there is no card beyond J = 7 is not said here: the rule finds no more terms up to offset 31. */
+int32_t reference_standard_card(uint32_t checks, uint8_t *output, size_t output_length)
+{
+    struct fields card = {.k = 1, .n = 2, .p = 1};
+    struct touched by_check[MOST_CHECKS + 1];
+    for (int a = 0; a <= MOST_MEMORY && (uint32_t)card.J[1] < checks; a++)
+        try_term(&card, a, by_check);
+    if (checks < 2 || (uint32_t)card.J[1] < checks)
+        return 0;
+    card.number = card.J[1];
+    return write_into(&card, output, output_length);
 }
 
 /* ---- The second circuit (document 02, R-2) ---- */

@@ -7,6 +7,8 @@
  * session has the first one's calls and refusals, the author was told, so there it is no second reading. Refusal 18
  * and the rewriting of stored cards (document 02, R-4) were added by an author who had not looked at the library's
  * code, from that document's paragraph. The order of 18 among a card's other refusals the author was told as well.
+ * Standard cards (document 02, R-5) were added by an author who had not looked at the library's code, from that
+ * document's paragraph and the report's section 3.5; that the call answers 0 for another J the author was told.
  *
  * It is made to be read, not to be fast. A digit is an int that is 0 or 1, a sum of digits is a
  * sum with one `% 2` at its end, and a stream keeps every frame from time 0 on: no masks, no
@@ -66,6 +68,9 @@ struct card_answer reference_read_card(const uint8_t *bytes, size_t length, stru
 
 /* The card that the bytes state in its written form, called as the library's card_write is. */
 int32_t reference_card_write(const uint8_t *card, size_t card_length, uint8_t *output, size_t output_length);
+
+/* The standard card with so many checks, called as the library's standard_card is. */
+int32_t reference_standard_card(uint32_t checks, uint8_t *output, size_t output_length);
 
 /* What the program `rewrite` writes for its input, a card or a line of text: at most MOST_CARD_BYTES. Gives the count. */
 size_t reference_rewrite(const uint8_t *input, size_t length, uint8_t *output);
