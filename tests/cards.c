@@ -199,6 +199,18 @@ void bench_card(char name, struct fields *card)
     }
 }
 
+/* ---- Standard cards (document 02, R-5) ---- */
+
+void standard_fields(int J, struct fields *card)
+{
+    static const int terms[] = {0, 1, 3, 7, 12, 20, 30};
+    set_sizes(card, J, 1, 2, terms[J - 1]);
+    for (int q = 0; q < J; q++) {
+        card->g[1][1][terms[q]] = 1;
+        add_single(card, 1, terms[q]);
+    }
+}
+
 /* ---- The longest card ---- */
 
 /* The digit that lies r frames after information stream i, both counted from 0, where four frames of a code with one

@@ -1,4 +1,4 @@
-/* Link cards for the tests: those of the bench, random ones, and their bytes. */
+/* Link cards for the tests: those of the bench, standard ones, random ones, and their bytes. */
 #ifndef CARDS_H
 #define CARDS_H
 
@@ -7,6 +7,9 @@
 
 /* A card of the bench: 'P', 'Q', 'R' or 'T'. */
 void bench_card(char name, struct fields *card);
+
+/* The standard card with J checks, 2 to 7, by the terms that document 02's R-5 names: nothing is generated here. */
+void standard_fields(int J, struct fields *card);
 
 /* A random card within the limits whose checks are orthogonal: random checks, kept where they do not clash. */
 void random_card(struct random *r, struct fields *card);

@@ -1,14 +1,15 @@
 /* Sets the library (libburst.a, by include/burst.h) against the reference: random and damaged cards, each also
- * written out, cards that state a default, random bursts with few, many and only wrong digits, every output size
- * around the count. Each call's answer, every output byte, the guard bytes around each lent buffer, and the card and
- * input themselves are compared. What the library receives by the first circuit is also set against the reference's
- * second one, on streams most of which are beyond the correctable number.
+ * written out, cards that state a default, standard cards, random bursts with few, many and only wrong digits, every
+ * output size around the count. Each call's answer, every output byte, the guard bytes around each lent buffer, and the
+ * card and input themselves are compared. What the library receives by the first circuit is also set against the
+ * reference's second one, on streams most of which are beyond the correctable number.
  *
  *     driver               everything, with the seed that is always the same
  *     driver SEED          everything, with another seed
  *     driver SEED ROUND    one round again: a failure prints both numbers
  *
- * Status 0: all agreed, and every refusal that a burst or a card written out can meet was met. */
+ * Status 0: all agreed, every refusal that a burst or a card written out can meet was met, and every standard card was
+ * tried. */
 #include "burst.h"
 
 #include "cards.h"
@@ -28,6 +29,9 @@ enum {
     STATED_CARDS = 700,     /* rounds with a card that states a default, in each way as often */
     PAIRS = 1000,           /* rounds with two cards, equal or not */
     DAMAGED_CARDS = 24,     /* rounds in which every byte of a card is changed, and it is cut and extended everywhere */
+    STANDARD_CARDS = 41,    /* rounds with a J from 0 on: a standard card, or none */
+    STREAMS_AT_LIMIT = 40,  /* for each standard card, streams with as many wrong digits as they stand */
+    LONGEST_STREAM = 120,   /* information frames of a stream */
     MOST_ROOM = MOST_FRAMES + 64
 };
 
@@ -72,6 +76,12 @@ static struct {
 static struct {
     long equal, unequal, order_alone; /* of the unequal, by the order of checks alone */
 } pairs;
+
+/* Standard cards: each J that has one or has none, and the streams with as many wrong digits as they stand. */
+static struct {
+    struct calls calls;
+    long cards, none, streams_at_limit;
+} standard;
 
 static struct arena card_arena, input_arena, output_arena;
 static uint8_t *expected; /* the output as the reference leaves it */
@@ -180,6 +190,16 @@ static int32_t call_write(struct random *r, const uint8_t *card, size_t card_len
     return compare(&counts.writes, answer, reference_card_write(card, card_length, expected, output_length));
 }
 
+/* The same with standard_card, which takes no card. */
+static int32_t call_standard(struct random *r, uint32_t checks, size_t output_length)
+{
+    static char function[40];
+    snprintf(function, sizeof function, "standard_card with J %lu", (unsigned long)checks);
+    struct lent lent = lend_all(r, function, NULL, 0, NULL, 0, output_length);
+    int32_t answer = standard_card(checks, lent.output, output_length);
+    return compare(&standard.calls, answer, reference_standard_card(checks, expected, output_length));
+}
+
 /* ---- Cards ---- */
 
 /* Whether both accept the card, by empty bursts and by writing it. */
@@ -207,26 +227,22 @@ static void random_frames(struct random *r, int streams, uint8_t *frames, long c
         frames[u] = (uint8_t)(random_word(r) % (1u << streams));
 }
 
-/* Makes digits of the frames wrong; 0 leaves them, 1000 takes all. Gives the number of wrong digits. */
-static long damage(struct random *r, int streams, int in_thousand, uint8_t *frames, long count)
+/* Makes digits of the frames wrong; 0 leaves them, 1000 takes all. */
+static void damage(struct random *r, int streams, int in_thousand, uint8_t *frames, long count)
 {
-    long wrong = 0;
     for (long u = 0; u < count; u++)
         for (int s = 0; s < streams; s++)
-            if (below(r, 1000) < in_thousand) {
+            if (below(r, 1000) < in_thousand)
                 frames[u] = (uint8_t)(frames[u] ^ (1 << s));
-                wrong++;
-            }
-    return wrong;
 }
 
 /* Makes digits wrong that the checks of one digit touch: as many as they can stand, or one more. */
-static long damage_touched(struct random *r, const struct fields *fields, uint8_t *frames, long count)
+static void damage_touched(struct random *r, const struct fields *fields, uint8_t *frames, long count)
 {
     struct { int b, s; } digits[(MOST_MEMORY + 1) * MOST_STREAMS];
     int found = 0;
     if (count == 0)
-        return 0;
+        return;
     int i = between(r, 1, fields->k), wrong = fields->J[i] / 2 + below(r, 2);
     long u = below(r, (int)count);
     for (int q = 1; q <= fields->J[i]; q++) {
@@ -241,10 +257,9 @@ static long damage_touched(struct random *r, const struct fields *fields, uint8_
         frames[u + digits[pick].b] ^= (uint8_t)(1 << (digits[pick].s - 1));
         digits[pick] = digits[chosen];
     }
-    return wrong;
 }
 
-/* A number of frames around which things may go wrong, and sometimes any: 119 at most. */
+/* A number of frames around which things may go wrong, and sometimes any: below LONGEST_STREAM. */
 static long length_around(struct random *r, int memory)
 {
     int m = memory > MOST_MEMORY ? MOST_MEMORY : memory; /* a spoiled card may state more */
@@ -256,7 +271,7 @@ static long length_around(struct random *r, int memory)
     case 2:
         return between(r, 2 * m, 2 * m + 2);
     default:
-        return below(r, 120);
+        return below(r, LONGEST_STREAM);
     }
 }
 
@@ -274,7 +289,7 @@ static void sizes_around(struct random *r, enum direction direction, const uint8
 /* Received frames that nobody sent, some with a digit beyond their streams, and outputs that may be too short. */
 static void any_frames(struct random *r, const struct fields *fields, const uint8_t *card, size_t card_length)
 {
-    uint8_t frames[120];
+    uint8_t frames[LONGEST_STREAM];
     long length = length_around(r, fields->m);
     enum direction direction = one_in(r, 2) ? SEND : RECEIVE;
     int streams = direction == SEND ? fields->k : fields->n;
@@ -288,7 +303,7 @@ static void any_frames(struct random *r, const struct fields *fields, const uint
 static void receive_by_second(const uint8_t *card, size_t card_length, const uint8_t *input, long input_length,
                               long count)
 {
-    uint8_t frames[120] = {0};
+    uint8_t frames[LONGEST_STREAM] = {0};
     int32_t answer = reference_burst_receive_by_digits(card, card_length, input, (size_t)input_length, frames,
                                                        (size_t)count);
     if (answer != count || memcmp(frames, lent_bytes(&output_arena), (size_t)count) != 0) {
@@ -310,37 +325,79 @@ static void count_stream(const struct fields *fields, int wrong, int as_sent, in
     counts.correctable += must && wrong;
 }
 
-/* A sent stream, with wrong digits, received: what comes out, and whether it must come out as sent. */
-static void stream(struct random *r, const struct fields *fields, const uint8_t *card, size_t card_length)
+/* A stream: its information frames, and the `whole` frames sent for them, tail included, and received. */
+struct transmission {
+    long count, whole;
+    uint8_t information[LONGEST_STREAM];
+    uint8_t sent[LONGEST_STREAM + MOST_MEMORY], received[LONGEST_STREAM + MOST_MEMORY];
+};
+
+/* Random information sent; no digit is wrong as yet. */
+static void send_stream(struct random *r, const struct fields *fields, const uint8_t *card, size_t card_length,
+                        long count, struct transmission *t)
 {
-    static const int rates[] = {0, 2, 10, 10, 30, 100, 300, 500, 1000};
-    uint8_t information[120], sent[120 + MOST_MEMORY], received[120 + MOST_MEMORY];
-    long count = length_around(r, fields->m), whole = count + fields->m;
-    random_frames(r, fields->k, information, count);
-    int32_t answer = call(r, SEND, card, card_length, information, (size_t)count, (size_t)(whole + below(r, 5)));
-    if (answer != whole)
+    t->count = count, t->whole = count + fields->m;
+    random_frames(r, fields->k, t->information, count);
+    int32_t answer = call(r, SEND, card, card_length, t->information, (size_t)count, (size_t)(t->whole + below(r, 5)));
+    if (answer != t->whole)
         fail("%ld information frames are sent as %d", count, (int)answer);
-    memcpy(sent, expected, (size_t)whole);
-    memcpy(received, expected, (size_t)whole);
-    long wrong = one_in(r, 3) ? damage_touched(r, fields, received, count)
-                              : damage(r, fields->n, rates[below(r, 9)], received, whole);
-    answer = call(r, RECEIVE, card, card_length, received, (size_t)whole, (size_t)(count + below(r, 5)));
-    if (answer != count)
-        fail("%ld frames are received as %d", whole, (int)answer);
-    int as_sent = memcmp(expected, information, (size_t)count) == 0;
-    int must = reference_correctable(fields, sent, received, count);
-    count_stream(fields, wrong > 0, as_sent, must);
+    memcpy(t->sent, expected, (size_t)t->whole);
+    memcpy(t->received, expected, (size_t)t->whole);
+}
+
+/* The stream received, wrong digits and all: what comes out, and whether it must come out as sent. */
+static void receive_stream(struct random *r, const struct fields *fields, const uint8_t *card, size_t card_length,
+                           const struct transmission *t)
+{
+    int32_t answer = call(r, RECEIVE, card, card_length, t->received, (size_t)t->whole,
+                          (size_t)(t->count + below(r, 5)));
+    if (answer != t->count)
+        fail("%ld frames are received as %d", t->whole, (int)answer);
+    int as_sent = memcmp(expected, t->information, (size_t)t->count) == 0;
+    int must = reference_correctable(fields, t->sent, t->received, t->count);
+    count_stream(fields, memcmp(t->sent, t->received, (size_t)t->whole) != 0, as_sent, must);
     if (must && !as_sent)
         fail("a correctable stream did not come out as sent");
     if (!must || one_in(r, 4)) {
-        receive_by_second(card, card_length, received, whole, count);
+        receive_by_second(card, card_length, t->received, t->whole, t->count);
         counts.by_second++;
         counts.by_second_beyond += !must;
     }
+}
+
+/* A stream with wrong digits, anywhere or among those that one digit's checks touch. */
+static void stream(struct random *r, const struct fields *fields, const uint8_t *card, size_t card_length)
+{
+    static const int rates[] = {0, 2, 10, 10, 30, 100, 300, 500, 1000};
+    struct transmission t;
+    send_stream(r, fields, card, card_length, length_around(r, fields->m), &t);
+    if (one_in(r, 3))
+        damage_touched(r, fields, t.received, t.count);
+    else
+        damage(r, fields->n, rates[below(r, 9)], t.received, t.whole);
+    receive_stream(r, fields, card, card_length, &t);
     if (one_in(r, 8)) {
-        sizes_around(r, SEND, card, card_length, information, count, whole);
-        sizes_around(r, RECEIVE, card, card_length, received, whole, count);
+        sizes_around(r, SEND, card, card_length, t.information, t.count, t.whole);
+        sizes_around(r, RECEIVE, card, card_length, t.received, t.whole, t.count);
     }
+}
+
+/* A stream with as many wrong digits as it stands, random ones until a further one is too many; then with that one. */
+static void stream_at_limit(struct random *r, const struct fields *fields, const uint8_t *card, size_t card_length)
+{
+    struct transmission t;
+    uint8_t *frame;
+    int digit;
+    send_stream(r, fields, card, card_length, between(r, 1, LONGEST_STREAM), &t);
+    do {
+        frame = &t.received[below(r, (int)t.whole)];
+        digit = 1 << below(r, fields->n);
+        *frame = (uint8_t)(*frame ^ digit);
+    } while (reference_correctable(fields, t.sent, t.received, t.count));
+    *frame = (uint8_t)(*frame ^ digit);
+    receive_stream(r, fields, card, card_length, &t);
+    *frame = (uint8_t)(*frame ^ digit);
+    receive_stream(r, fields, card, card_length, &t);
 }
 
 /* ---- Cards written out ---- */
@@ -406,6 +463,57 @@ static void rewrite_stored(struct random *r, const uint8_t *card, size_t length)
     write_out(r, &after, bytes, count);
     stream(r, &after, bytes, count);
     stating.rewritten++;
+}
+
+/* ---- Standard cards ---- */
+
+/* The bytes are those of the terms that document 02 names. As a card they are accepted, come back from card_write, and
+ * bursts go by them. */
+static void use_standard_card(struct random *r, int J)
+{
+    struct fields named, fields;
+    uint8_t of_terms[MOST_CARD_BYTES], card[MOST_CARD_BYTES];
+    standard_fields(J, &named);
+    size_t length = card_bytes(&named, 0, 0, of_terms);
+    int32_t answer = call_standard(r, (uint32_t)J, sizeof card);
+    if (answer != (int32_t)length || memcmp(expected, of_terms, length) != 0)
+        fail("the standard card is not that of the terms that are named");
+    memcpy(card, expected, length);
+    if (!accepted(r, card, length) || reference_read_card(card, length, &fields).refusal)
+        fail("a standard card is refused");
+    write_out(r, &fields, card, length);
+    for (int turn = 0; turn < STREAMS_AT_LIMIT; turn++) {
+        stream(r, &fields, card, length);
+        stream_at_limit(r, &fields, card, length);
+        standard.streams_at_limit++;
+    }
+}
+
+/* Each J from 0 on; then others, most of which would have a card if they were cut to fewer digits. */
+static int checks_of_turn(long turn, uint32_t *checks)
+{
+    static const uint32_t others[] = {
+        255, 256, 0x102, 0x107, 0x10002, 0x10007, 0x1000003, 0x1000006, 0x7fffffff, 0x80000000, 0x80000003, 0x80000007,
+        0xfffffffe, 0xffffffff};
+    if (turn >= STANDARD_CARDS + (long)(sizeof others / sizeof *others))
+        return 0;
+    *checks = turn < STANDARD_CARDS ? (uint32_t)turn : others[turn - STANDARD_CARDS];
+    return 1;
+}
+
+/* A J, with every output size from none to more than enough; and its card, if there is one. */
+static void standard_card_round(struct random *r, uint32_t checks)
+{
+    int32_t count = checks >= 2 && checks <= 7 ? 5 * (int32_t)checks + 10 : 0;
+    for (int32_t room = 0; room <= 64; room++) {
+        int32_t answer = call_standard(r, checks, (size_t)room);
+        if (answer != (room < count ? -13 : count))
+            fail("room for %d of %d bytes, and the answer is %d", (int)room, (int)count, (int)answer);
+    }
+    if (count > 0)
+        use_standard_card(r, (int)checks);
+    standard.cards += count > 0;
+    standard.none += count == 0;
 }
 
 /* ---- Pairs of cards ---- */
@@ -770,6 +878,9 @@ static void null_pointers(void)
         fail("one frame at m = 0 does not come out");
     if (card_write(NULL, 0, NULL, 0) != -1 || card_write(card_of_m_0, sizeof card_of_m_0, NULL, 0) != -13)
         fail("no card at all is not refused with 1 by card_write, or no room with 13");
+    for (uint32_t checks = 0; checks <= 9; checks++)
+        if (standard_card(checks, NULL, 0) != (checks >= 2 && checks <= 7 ? -13 : 0))
+            fail("no room is not answered by 13, or by 0 where there is no standard card, for J %d", (int)checks);
 }
 
 static void bench_round(struct random *r)
@@ -811,6 +922,10 @@ static int run_round(long round)
         return bench_round(&r), 1;
     if (turn == 1)
         return longest_card_round(&r), 1;
+    turn -= 2;
+    uint32_t checks;
+    if (checks_of_turn(turn, &checks))
+        return standard_card_round(&r, checks), 1;
     return 0;
 }
 
@@ -856,6 +971,9 @@ static void print_counts(void)
     print_refused("card_write", &counts.writes);
     print_written();
     print_stating();
+    printf("%ld calls of standard_card, %ld refused with 13; %ld J with a card, %ld without; %ld streams with as many "
+           "wrong digits as they stand\n",
+           standard.calls.made, standard.calls.refused[13], standard.cards, standard.none, standard.streams_at_limit);
     printf("%ld streams: %ld without a wrong digit, %ld corrected, %ld beyond (%ld with wrong digits had to come out as sent)\n",
            counts.streams, counts.clean, counts.corrected, counts.beyond, counts.correctable);
     printf("%ld of the streams received by the second circuit too, %ld of them beyond the correctable number\n",
@@ -915,6 +1033,10 @@ static int tried_enough(void)
     }
     if (!second_tried_enough()) {
         printf("FAILED: too few streams for the second circuit, or not most of them beyond the correctable number\n");
+        enough = 0;
+    }
+    if (standard.cards != 6 || standard.none < STANDARD_CARDS || standard.calls.refused[13] == 0) {
+        printf("FAILED: not every standard card was tried, or too few J without one\n");
         enough = 0;
     }
     if (counts.most_checks < MOST_CHECKS || counts.cards < 20000 || counts.streams < 5000 || counts.corrected < 500 || counts.beyond < 500) {
