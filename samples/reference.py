@@ -1,5 +1,5 @@
-"""Link cards, sending, receiving and the listing, in document 01's words, and the rewriting of stored cards, in those of document 02's R-4.
-Nothing here is taken from the Rattle code.
+"""Link cards, sending, receiving and the listing, in document 01's words, and the rewriting of stored cards and the standard cards, in those of
+document 02's R-4 and R-5. Nothing here is taken from the Rattle code.
 
 Made to be read, not to be fast. Streams are counted from 0; parity stream j is stream k + j. An error is a pair (b, stream).
 """
@@ -208,6 +208,30 @@ def framed(card, frames):
     """An input of the listing program: a two-byte card length, the card's bytes, the frames."""
     return len(card).to_bytes(2, "little") + card + bytes(frames)
 
+
+def of_terms(terms):
+    """The card of a code with one generator of these terms: a check for the syndrome of each, their count as its number, the last one as m."""
+    return Card(len(terms), 1, 2, terms[-1], [[sum(1 << a for a in terms)]], [[[1 << a] for a in terms]])
+
+
+def self_orthogonal(last):
+    """The cards by the report's rule for self-orthogonal codes (its section 3.5), for rising offset up to `last`: by the count of their checks."""
+    terms, taken, cards = [], set(), {}
+    for a in range(last + 1):
+        card = of_terms(terms + [a])
+        errors = card.touched_by([1 << a])
+        # The term is taken exactly if its syndrome shares no error with the checks already taken, apart from digit 0.
+        if not errors & taken - {(0, 0)}:
+            terms.append(a)
+            taken |= errors
+            cards[len(terms)] = card
+    return cards
+
+
+# The standard cards, by their J, which is 2 at least: a single check puts nothing right.
+STANDARD = {J: card for J, card in self_orthogonal(31).items() if 2 <= J}
+assert [card.m for card in STANDARD.values()] == [1, 3, 7, 12, 20, 30] and list(STANDARD) == [2, 3, 4, 5, 6, 7]
+assert all(Card.read(card.bytes()).bytes() == card.bytes() for card in STANDARD.values())
 
 # The cards on the bench.
 P = Card(7, 1, 2, 1, [[3]], [[[1], [2]]])
