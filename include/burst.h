@@ -90,7 +90,7 @@
  *
  * Standard cards
  * --------------
- * Who has no card of his own takes a standard one. There are six, all with k 1 and n 2: one for each number of
+ * A site without a card of its own takes a standard one. There are six, all with k 1 and n 2: one for each number of
  * checks J from 2 to 7, which is the card's number too. So a site settles on a J, and nothing else:
  *
  *     J     m   bytes   wrong digits put right
