@@ -6,3 +6,4 @@ pub mod BurstClauses
 pub mod ListingClauses
 pub mod RewritingClauses
 pub mod WriterClauses
+pub mod StandardClauses

@@ -7,4 +7,5 @@ pub mod edges;
 pub mod listings;
 pub mod rewritings;
 pub mod sessions;
+pub mod standards;
 pub mod written;

@@ -1,9 +1,10 @@
 -- What a burst comes to, from its answer and its bytes; what given bytes, and sending, come to under each condition.
-use Prim.Native.Nat.{ℕ, _+_, _≤_, _<_}
+use Prim.Native.Nat.{ℕ, zero, suc, _+_, _≤_, _<_}
 use mathlib.Core.Path.{_≡_, sym, ap, ap₂, _∙_}
 use mathlib.Core.Bool.{true, false}
 use mathlib.Core.List.{List, _++_}
 use mathlib.Core.Logic.{⊎-elim}
+use native.Mathlib.Omega.{arith}
 use lib.ListN.{length, take, drop}
 use lib.Seq.{take-at}
 use lib.IntN.{ℤ, pos, negℤ, pos-ne-negsuc}
@@ -31,6 +32,11 @@ pub given-is : {answer : ℤ} {after : List ℕ} (count : ℕ) (frames output : 
 unfolding givenOf
 given-is count frames output q e a =
     ap₂ outcome e a ∙ ap (λ (n : ℕ). outcome (pos n) (frames ++ drop n output)) (sym q)
+
+-- a refusal is no count above zero
+pub no-refusal : (n count : ℕ) → 0 < count → negℤ (pos n) ≡ pos count → ⊥
+no-refusal zero count h e = let z : 0 ≡ count = ap mag e in omega arith
+no-refusal (suc n) count h e = pos-ne-negsuc count n (sym e)
 
 -- ---- bytes for which the output may be too short
 module _ (bytes output : List ℕ) where

@@ -16,7 +16,7 @@ use Rattle.card.specs.declared.Refusal.{Refusal}
 use Rattle.card.proofs.CardLength.{head-size}
 use Rattle.outcomes.specs.Outcome.{BurstOutcome, outcome, refusedOf, givenOf, underCard}
 use Rattle.outcomes.specs.Wrote.{Wrote}
-use Rattle.outcomes.proofs.Outcomes.{refused-is, given-is, fitted-short, fitted-given}
+use Rattle.outcomes.proofs.Outcomes.{no-refusal, refused-is, given-is, fitted-short, fitted-given}
 use Rattle.outcomes.proofs.Writing.{wrote-as, wrote-length, wrote-front}
 use Rattle.card.specs.Written.{fieldsWith, fieldsOf, written}
 use Rattle.writer.specs.Outcome.{answerOf, writeUnder, writeOf}
@@ -40,10 +40,6 @@ unfolding written layout
 written-some c =
     let f = fieldsOf c in
     omega (arith, length-append (layoutHead (f .head)) (layoutRows (f .rows) ++ layoutStreams (f .streams)), head-size (f .head))
-
-no-refusal : (n count : ℕ) → 0 < count → negℤ (pos n) ≡ pos count → ⊥
-no-refusal zero count h e = let z : 0 ≡ count = ap mag e in omega arith
-no-refusal (suc n) count h e = pos-ne-negsuc count n (sym e)
 
 module _ (c : Card) (output : List ℕ) where
   pub write-short : length output < length (written c) → writeUnder c output ≡ refusedOf 13 output
