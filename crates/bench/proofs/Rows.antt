@@ -9,13 +9,13 @@ use Rattle.card.specs.Fields.{store, storeRows, storeChecks, storeStreams, stor
 use Rattle.card.specs.Reading.{byteField, standingField, kField, nField, mapField, wordAt, maskField, readHead, standingMask, readMasks, readRows, readGenerators, touchedBy, readCheck, readChecks, readStreams, readFields, readUnder}
 use Rattle.majority.specs.Rule.{syndrome, cleared, checkAt, votes, decide, decideFrame, decided, corrected, decoded}
 use Rattle.receiving.specs.Calls.{answersBy}
-use Rattle.outcomes.specs.Outcome.{refusedOf, givenOf, underCard}
+use Rattle.outcomes.specs.Outcome.{refusedOf, givenOf, withRoom, underCard}
 use Rattle.outcomes.specs.Receiving.{receiveUnder, receiveOf}
 use Rattle.card.specs.Bench.{checks}
 use Rattle.bench.specs.Rows.{Rows}
 
 pub rows : Rows
-unfolding sumBelow upTo back grown bit fromDigits anyBeyond generator digit parityAt withTail sentDigit sentFrame sent count checkMask syndrome cleared checkAt votes decide decideFrame decided corrected decoded answersBy refusedOf givenOf underCard receiveUnder receiveOf touchesInfo touchesBy store storeRows storeChecks storeStreams storeCounts cardOf byteField standingField kField nField mapField wordAt maskField readHead standingMask readMasks readRows readGenerators besides touchedBy clashes judge readCheck readChecks readStreams readFields readUnder checks
+unfolding sumBelow upTo back grown bit fromDigits anyBeyond generator digit parityAt withTail sentDigit sentFrame sent count checkMask syndrome cleared checkAt votes decide decideFrame decided corrected decoded answersBy refusedOf givenOf withRoom underCard receiveUnder receiveOf touchesInfo touchesBy store storeRows storeChecks storeStreams storeCounts cardOf byteField standingField kField nField mapField wordAt maskField readHead standingMask readMasks readRows readGenerators besides touchedBy clashes judge readCheck readChecks readStreams readFields readUnder checks
 rows =
     record {
       P-is-accepted = refl;

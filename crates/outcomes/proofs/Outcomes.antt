@@ -20,7 +20,7 @@ use Rattle.code.specs.declared.Card.{Card}
 use Rattle.card.specs.declared.CardRead.{CardRead}
 use Rattle.card.specs.declared.CardRule.the-variants.{Present}
 use Rattle.code.proofs.Sent.{sent-length}
-use Rattle.outcomes.specs.Outcome.{BurstOutcome, outcome, refusedOf, givenOf, fitted, underCard}
+use Rattle.outcomes.specs.Outcome.{BurstOutcome, outcome, refusedOf, givenOf, withRoom, fitted, underCard}
 use Rattle.outcomes.specs.Sending.{sendUnder}
 
 pub refused-is : {answer : ℤ} (n : ℕ) (output : List ℕ) → answer ≡ negℤ (pos n) → outcome answer output ≡ refusedOf n output
@@ -41,11 +41,11 @@ no-refusal (suc n) count h e = pos-ne-negsuc count n (sym e)
 -- ---- bytes for which the output may be too short
 module _ (bytes output : List ℕ) where
   pub fitted-short : length output < length bytes → fitted bytes output ≡ refusedOf 13 output
-  unfolding fitted
+  unfolding withRoom fitted
   fitted-short l = rw (lt-ltb (length output) (length bytes) l)
 
   pub fitted-given : length bytes ≤ length output → fitted bytes output ≡ givenOf bytes output
-  unfolding fitted
+  unfolding withRoom fitted
   fitted-given l = rw (le-ltb (length output) (length bytes) l)
 
   -- a count that is answered is that of the bytes, which stand in the output
@@ -74,16 +74,16 @@ module _ (c : Card) (input output : List ℕ) where
 
   module _ (r : length input + c .m ≤ mostFrames) where
     pub under-short : length output < length input + c .m → sendUnder c input output ≡ refusedOf 13 output
-    unfolding sendUnder
+    unfolding withRoom sendUnder
     under-short l = rw (sent-length c input, le-ltb mostFrames (length input + c .m) r, lt-ltb (length output) (length input + c .m) l)
 
     module _ (o : length input + c .m ≤ length output) where
       pub under-beyond : anyBeyond (c .k) input ≡ true → sendUnder c input output ≡ refusedOf 11 output
-      unfolding sendUnder
+      unfolding withRoom sendUnder
       under-beyond b = rw (sent-length c input, le-ltb mostFrames (length input + c .m) r, le-ltb (length output) (length input + c .m) o, b)
 
       pub under-sent : anyBeyond (c .k) input ≡ false → sendUnder c input output ≡ givenOf (sent c input) output
-      unfolding sendUnder
+      unfolding withRoom sendUnder
       under-sent b = rw (sent-length c input, le-ltb mostFrames (length input + c .m) r, le-ltb (length output) (length input + c .m) o, b)
 
 -- ---- with the card's bytes, whatever the call comes to under a card

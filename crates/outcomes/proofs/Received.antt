@@ -20,7 +20,7 @@ use Rattle.card.specs.declared.CardRule.the-variants.{Present}
 use Rattle.majority.specs.Rule.{decoded}
 use Rattle.majority.proofs.Streams.{decoded-length}
 use Rattle.majority.proofs.Theorem.{decoded-as-sent}
-use Rattle.outcomes.specs.Outcome.{BurstOutcome, outcome, refusedOf, givenOf, underCard}
+use Rattle.outcomes.specs.Outcome.{BurstOutcome, outcome, refusedOf, givenOf, withRoom, underCard}
 use Rattle.outcomes.specs.Receiving.{receiveUnder, receiveOf}
 use Rattle.outcomes.specs.Claims.{Admitted, CameOut, ComesOutAsSent}
 
@@ -31,16 +31,16 @@ module _ (c : Card) (input output : List ℕ) where
 
   module _ (r : length input ≤ mostFrames) where
     pub receive-short : length output < length input - c .m → receiveUnder c input output ≡ refusedOf 13 output
-    unfolding receiveUnder
+    unfolding withRoom receiveUnder
     receive-short l = rw (le-ltb mostFrames (length input) r, decoded-length c input, lt-ltb (length output) (length input - c .m) l)
 
     module _ (o : length input - c .m ≤ length output) where
       pub receive-beyond : anyBeyond (c .k + c .p) input ≡ true → receiveUnder c input output ≡ refusedOf 11 output
-      unfolding receiveUnder
+      unfolding withRoom receiveUnder
       receive-beyond b = rw (le-ltb mostFrames (length input) r, decoded-length c input, le-ltb (length output) (length input - c .m) o, b)
 
       pub receive-given : anyBeyond (c .k + c .p) input ≡ false → receiveUnder c input output ≡ givenOf (decoded c input) output
-      unfolding receiveUnder
+      unfolding withRoom receiveUnder
       receive-given b = rw (le-ltb mostFrames (length input) r, decoded-length c input, le-ltb (length output) (length input - c .m) o, b)
 
 -- ---- with the card's bytes

@@ -25,9 +25,13 @@ refusedOf n output = outcome (negℤ (pos n)) output
 unfoldable pub givenOf : List ℕ → List ℕ → BurstOutcome
 givenOf frames output = outcome (pos (length frames)) (frames ++ drop (length frames) output)
 
--- these bytes, where the output has room for them all, else 13
+-- 13 where the output is too short for these bytes, else what the call comes to
+unfoldable pub withRoom : List ℕ → List ℕ → BurstOutcome → BurstOutcome
+withRoom bytes output burst = cond (ltb (length output) (length bytes)) (refusedOf 13 output) burst
+
+-- these bytes, or 13
 unfoldable pub fitted : List ℕ → List ℕ → BurstOutcome
-fitted bytes output = cond (ltb (length output) (length bytes)) (refusedOf 13 output) (givenOf bytes output)
+fitted bytes output = withRoom bytes output (givenOf bytes output)
 
 -- "Bursts: card, then ..": the card's refusal, or what the burst comes to under the card
 unfoldable pub underCard : Outcome → BurstOutcome → List ℕ → BurstOutcome

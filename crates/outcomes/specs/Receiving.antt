@@ -10,13 +10,13 @@ use Rattle.card.specs.Reading.{readCard}
 use Rattle.code.specs.Code.{mostFrames}
 use Rattle.code.specs.declared.Card.{Card}
 use Rattle.majority.specs.Rule.{decoded}
-use Rattle.outcomes.specs.Outcome.{BurstOutcome, refusedOf, givenOf, underCard}
+use Rattle.outcomes.specs.Outcome.{BurstOutcome, refusedOf, givenOf, withRoom, underCard}
 
 -- under the card c: "15 by length .., 13, 11"; "the first m frames give 'waiting'; each later one gives the frame m before it"
 unfoldable pub receiveUnder : Card → List ℕ → List ℕ → BurstOutcome
 receiveUnder c input output =
     cond (ltb mostFrames (length input)) (refusedOf 15 output)
-    (cond (ltb (length output) (length (decoded c input))) (refusedOf 13 output)
+    (withRoom (decoded c input) output
     (cond (anyBeyond (c .k + c .p) input) (refusedOf 11 output)
     (givenOf (decoded c input) output)))
 

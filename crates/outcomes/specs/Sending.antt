@@ -9,13 +9,13 @@ use Rattle.bits.specs.Digits.{anyBeyond}
 use Rattle.code.specs.Code.{mostFrames, sent}
 use Rattle.card.specs.Reading.{readCard}
 use Rattle.code.specs.declared.Card.{Card}
-use Rattle.outcomes.specs.Outcome.{BurstOutcome, refusedOf, givenOf, underCard}
+use Rattle.outcomes.specs.Outcome.{BurstOutcome, refusedOf, givenOf, withRoom, underCard}
 
 -- under the card c: "15 by length (sent frames with tail), 13, 11"
 unfoldable pub sendUnder : Card → List ℕ → List ℕ → BurstOutcome
 sendUnder c input output =
     cond (ltb mostFrames (length (sent c input))) (refusedOf 15 output)
-    (cond (ltb (length output) (length (sent c input))) (refusedOf 13 output)
+    (withRoom (sent c input) output
     (cond (anyBeyond (c .k) input) (refusedOf 11 output)
     (givenOf (sent c input) output)))
 
