@@ -20,11 +20,18 @@ use Rattle.card.specs.declared.CardRead.{CardRead}
 use Rattle.card.specs.declared.CardRule.the-variants.{Present}
 use Rattle.card.specs.declared.Refusal.{Refusal}
 use Rattle.card.proofs.Acceptance.{reads-back}
-use Rattle.outcomes.specs.Outcome.{BurstOutcome, outcome, refusedOf, givenOf}
+use Rattle.outcomes.specs.Outcome.{BurstOutcome, outcome, refusedOf, givenOf, fitted}
 use Rattle.outcomes.proofs.Outcomes.{no-refusal, fitted-short, fitted-given, front-is}
 use Rattle.standard.specs.SelfOrthogonal.{lastOf, maskOf, fieldsBy}
 use Rattle.standard.specs.Standard.{standardTerms, standardFields, standardCard, standardOf, StandardCards}
 use Rattle.standard.proofs.Answers.{within, outside}
+
+-- P's bytes and Q's, but for the number
+abbrev two : List ℕ
+two = 0 ∷ 2 ∷ drop 2 cardP
+
+abbrev three : List ℕ
+three = 0 ∷ 3 ∷ drop 2 (cardQ (s 0 ∷ s 1 ∷ s 3 ∷ []))
 
 module _ (claims : StandardCards) where
   -- ---- the bytes, by the terms
@@ -32,28 +39,26 @@ module _ (claims : StandardCards) where
   unfolding standardCard standardFields
   by-terms J = ap (λ (t : List ℕ). layout (fieldsBy (take J t))) (claims .terms-are)
 
-  two : standardCard 2 ≡ 0 ∷ 2 ∷ drop 2 cardP
-  unfolding stated lastOf maskOf fieldsBy bytes4 stands mapOf layoutMasks optional layoutHead allRows layoutRows layoutChecks layoutStreams layout
-  two = by-terms 2
-
-  three : standardCard 3 ≡ 0 ∷ 3 ∷ drop 2 (cardQ (s 0 ∷ s 1 ∷ s 3 ∷ []))
+  bytes-are : (standardCard 2 ≡ two) × (standardCard 3 ≡ three)
   unfolding stated lastOf maskOf fieldsBy bytes4 stands mapOf layoutMasks optional layoutHead allRows layoutRows layoutChecks layoutStreams layout checks
-  three = by-terms 3
+  bytes-are = (by-terms 2, by-terms 3)
 
   module _ (output : List ℕ) where
-    given : (J : ℕ) → 2 ≤ J → J ≤ 7 → length (standardCard J) ≤ length output → standardOf J output ≡ givenOf (standardCard J) output
-    given J least most room = within J output least most ∙ fitted-given (standardCard J) output room
+    given : (J : ℕ) → 2 ≤ J → J ≤ 7 → {bytes : List ℕ} → standardCard J ≡ bytes → length bytes ≤ length output → standardOf J output ≡ givenOf bytes output
+    given J least most {bytes} e room =
+        within J output least most
+        ∙ ap (λ (l : List ℕ). fitted l output) e
+        ∙ fitted-given bytes output room
 
-    pub two-given : 20 ≤ length output → standardOf 2 output ≡ outcome (pos 20) ((0 ∷ 2 ∷ drop 2 cardP) ++ drop 20 output)
+    pub two-given : 20 ≤ length output → standardOf 2 output ≡ outcome (pos 20) (two ++ drop 20 output)
     unfolding givenOf
-    two-given room =
-        given 2 (omega arith) (omega arith) (omega (arith, ap length two)) ∙ ap (λ (bytes : List ℕ). givenOf bytes output) two
+    two-given room = given 2 (omega arith) (omega arith) (bytes-are .0) room
 
-    pub three-given : length output ≡ 25 → standardOf 3 output ≡ outcome (pos 25) (0 ∷ 3 ∷ drop 2 (cardQ (s 0 ∷ s 1 ∷ s 3 ∷ [])))
+    pub three-given : length output ≡ 25 → standardOf 3 output ≡ outcome (pos 25) three
     unfolding givenOf checks
     three-given room =
-        given 3 (omega arith) (omega arith) (omega (arith, ap length three)) ∙ ap (λ (bytes : List ℕ). givenOf bytes output) three
-        ∙ ap (λ (rest : List ℕ). outcome (pos 25) ((0 ∷ 3 ∷ drop 2 (cardQ (s 0 ∷ s 1 ∷ s 3 ∷ []))) ++ rest)) (drop-of-length-le output {i = 25} (omega arith))
+        given 3 (omega arith) (omega arith) (bytes-are .1) (omega arith)
+        ∙ ap (λ (rest : List ℕ). outcome (pos 25) (three ++ rest)) (drop-of-length-le output {i = 25} (omega arith))
 
     -- ---- their lengths
     pub no-room-seven : length output ≡ 44 → standardOf 7 output ≡ outcome (negℤ (pos 13)) output
@@ -71,7 +76,7 @@ module _ (claims : StandardCards) where
       unfolding givenOf
       not-refused refusal e =
           no-refusal (numberOf refusal) (length (standardCard J)) (omega (arith, claims .length-is J least most))
-          (ap (λ (b : BurstOutcome). b .answer) (e ∙ given J least most has-room))
+          (ap (λ (b : BurstOutcome). b .answer) (e ∙ given J least most refl has-room))
 
       pub accepted-each : {n : ℕ} {after : List ℕ} → outcome (pos n) after ≡ standardOf J output → (read : CardRead) → CardPromise Present (take n after) read
           → (outcomeOf (read .verdict) ≡ accepted) × (read .card ≡ cardOf (standardFields J))
