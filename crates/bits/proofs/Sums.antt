@@ -152,10 +152,6 @@ unfolding sumBelow
 sum-mono zero f g h = zero-le
 sum-mono (suc n) f g h = add-le-add (sum-mono n f g (λ q l. h q (omega arith))) (h n (le-refl (suc n)))
 
--- a sum of n digits
-pub sum-digits-le : (n : ℕ) (f : ℕ → ℕ) → ((q : ℕ) → q < n → f q ≤ 1) → sumBelow n f ≤ n
-sum-digits-le n f h = let s = sum-mono n f (λ q. 1) h in let c = sum-const n 1 in omega arith
-
 -- a term is at most the sum
 pub term-le-sum : (n : ℕ) (f : ℕ → ℕ) (i : ℕ) → i < n → f i ≤ sumBelow n f
 unfolding sumBelow

@@ -1,5 +1,5 @@
 -- What the clauses of the standard cards' promise give.
-use Prim.Native.Nat.{ℕ, _≤_, _<_}
+use Prim.Native.Nat.{ℕ, _≤_}
 use mathlib.Core.Path.{_≡_, refl, sym, ap, _∙_}
 use mathlib.Core.List.{List, [], _∷_, _++_}
 use mathlib.Core.Logic.{inl, inr}
@@ -23,7 +23,7 @@ use Rattle.card.proofs.Acceptance.{reads-back}
 use Rattle.outcomes.specs.Outcome.{BurstOutcome, outcome, refusedOf, givenOf, fitted}
 use Rattle.outcomes.proofs.Outcomes.{no-refusal, fitted-short, fitted-given, front-is}
 use Rattle.standard.specs.SelfOrthogonal.{lastOf, maskOf, fieldsBy}
-use Rattle.standard.specs.Standard.{standardTerms, standardFields, standardCard, standardOf, StandardCards}
+use Rattle.standard.specs.Standard.{standardFields, standardCard, standardOf, StandardCards}
 use Rattle.standard.proofs.Answers.{within, outside}
 
 -- P's bytes and Q's, but for the number

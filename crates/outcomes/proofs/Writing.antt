@@ -1,4 +1,4 @@
--- Bytes written at a place of an output: nothing, one, one part after the other, and all from the front on.
+-- Bytes written at a place of an output: nothing, one part after the other, and all from the front on.
 use Prim.Native.Nat.{ℕ, suc, _+_, _≤_}
 use mathlib.Core.Path.{_≡_, refl, sym, ap, subst, _∙_}
 use mathlib.Core.List.{List, [], _∷_, _++_}
@@ -16,9 +16,6 @@ sets-append l i (x ∷ s) t =
 
 pub wrote-nothing : (output : List ℕ) (at : ℕ) → Wrote output at [] output at
 wrote-nothing output at = record { after-is = refl; end-is = sym (add-zero at) }
-
-pub wrote-byte : (output : List ℕ) (at value : ℕ) → Wrote output at (value ∷ []) (set output at value) (at + 1)
-wrote-byte output at value = record { after-is = refl; end-is = refl }
 
 pub wrote-both : {output between after : List ℕ} {at place r : ℕ} (s t : List ℕ)
     → Wrote output at s between place → Wrote between place t after r → Wrote output at (s ++ t) after r

@@ -11,7 +11,7 @@ use Rattle.code.specs.Checks.{checkMask, touchesInfo, touchesBy, touches, besid
 use Rattle.code.specs.Judging.{clashes, judge}
 use Rattle.card.specs.Fields.{Fields, store, storeRows, storeChecks, storeStreams, storeCounts, cardOf}
 use Rattle.card.specs.Layout.{bytes4, stands, mapOf, layoutMasks, optional, layoutHead, allRows, layoutRows, layoutChecks, layoutStreams, layout, Acceptable}
-use Rattle.card.specs.Reading.{Read, byteField, standingField, kField, nField, mapField, wordAt, maskField, readHead, standingMask, readMasks, readRows, readGenerators}
+use Rattle.card.specs.Reading.{byteField, standingField, kField, nField, mapField, wordAt, maskField, readHead, standingMask, readMasks, readRows, readGenerators}
 use Rattle.card.specs.Reading.{touchedBy, readCheck, readChecks, readStreams, readFields}
 use Rattle.card.specs.Reading.Read.{got}
 use Rattle.card.specs.Written.{stated}

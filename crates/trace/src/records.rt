@@ -1,6 +1,5 @@
 // The records of a trace: a kind and its bytes. Each is one call of a session, or selects one.
 ghost use Prim.Native.Nat.{_<_, _≤_};
-ghost use lib.ListN.{length};
 use crate::lines;
 use receiving::Reading;
 

@@ -1,11 +1,10 @@
 -- What writing a card comes to: under each condition, and from what was laid out in no room, which counts the bytes, and in the output.
-use Prim.Native.Nat.{ℕ, zero, suc, _-_, _≤_, _<_, min}
+use Prim.Native.Nat.{ℕ, _-_, _≤_, _<_, min}
 use mathlib.Core.Path.{_≡_, refl, sym, ap, ap₂, _∙_}
 use mathlib.Core.List.{List, [], _∷_, _++_}
 use native.Mathlib.Omega.{arith}
 use lib.ListN.{length, drop, length-append}
-use lib.IntN.{pos, negℤ, pos-ne-negsuc}
-use lib.Signed.{mag}
+use lib.IntN.{pos, negℤ}
 use Rattle.code.specs.declared.Card.{Card}
 use Rattle.card.specs.Layout.{layoutHead, layoutRows, layoutStreams, layout}
 use Rattle.card.specs.Outcome.{Outcome, CardOutcome}
