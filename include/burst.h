@@ -90,8 +90,8 @@
  *
  * Standard cards
  * --------------
- * A site without a card of its own takes a standard one. There are six, all with k 1 and n 2: one for each number of
- * checks J from 2 to 7, which is the card's number too. So a site settles on a J, and nothing else:
+ * A site without a card of its own takes a standard one. There are six, all with k 1 and n 2: one for each
+ * number of checks J from 2 to 7, which is the card's number too. So a site settles on a J, and nothing else:
  *
  *     J     m   bytes   wrong digits put right
  *     2     1      20   1
@@ -101,8 +101,9 @@
  *     6    20      40   3
  *     7    30      45   3
  *
- * More checks put more wrong digits right (see "What is corrected" below), and cost a longer memory: the tail
- * has m frames, and a digit is known only when the m frames after it have come.
+ * An even J puts J / 2 wrong digits right (see "What is corrected" below), and an odd J no more than the one
+ * before it. More checks cost a longer memory: the tail has m frames, and a digit is known only when the m
+ * frames after it have come.
  *
  *     uint8_t card[BURST_MOST_STANDARD_CARD_BYTES];
  *     int32_t length = standard_card(6, card, sizeof card);
@@ -110,7 +111,8 @@
  *         return show_no_card();
  *     int32_t sent = burst_send(card, (size_t)length, information, 3, link, sizeof link);
  *
- * - Each of them is a good card: every function here that takes a card accepts it.
+ * - Each of them is a good card: every function here that takes a card accepts it. Pass its length on, and not
+ *   sizeof card: bytes after the last check are refused (10).
  * - For another J there is no standard card. The answer is then 0, whatever the output is.
  * - Probe and unit must use the same J: a burst doesn't say by which card it was sent.
  *
@@ -256,8 +258,8 @@ int32_t card_write(const uint8_t *card, size_t card_length,
  *   checks                  J, from BURST_LEAST_STANDARD_CHECKS to BURST_MOST_STANDARD_CHECKS
  *   output, output_length   receives the card; BURST_MOST_STANDARD_CARD_BYTES are always room enough
  *
- * Answers the count of output bytes, which is 5 * checks + 10; or 0, with nothing written, if there is no standard
- * card with so many checks; or else minus BURST_OUTPUT_TOO_SHORT. */
+ * Answers the count of output bytes, which is 5 * checks + 10; or 0, with nothing written, if there is no
+ * standard card with so many checks; or else minus BURST_OUTPUT_TOO_SHORT. */
 int32_t standard_card(uint32_t checks, uint8_t *output, size_t output_length);
 
 #ifdef __cplusplus

@@ -11,10 +11,16 @@ ghost use Rattle.majority.specs.Rule.{decoded, figureBy};
 ghost use Rattle.majority.specs.SecondCircuit.{decodedByDigits};
 ghost use Rattle.outcomes.specs.Admissions.{Admissions};
 ghost use Rattle.outcomes.specs.Claims.{SentAs};
+ghost use Rattle.standard.specs.Edges.{TermEdges};
 
 // The third term's.
 pub fn conditions_are_met()
     ensures { λ _. ⌜ Edges Correctable × Edges SentAs × Admissions ⌝ }
+{}
+
+// The rule's by which the standard cards were made.
+pub fn terms_are_taken()
+    ensures { λ _. ⌜ TermEdges ⌝ }
 {}
 
 // The link figure where no syndrome is held: before the first frame, and without memory.

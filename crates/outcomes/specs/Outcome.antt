@@ -1,5 +1,6 @@
 -- What a burst comes to: document 01, "Readings and bursts" ("The answer is the count of output frames, or minus the refusal. Only that many
--- output bytes are written.") and "Orders" ("A refused call hands back the number, .. and lent bytes unaltered").
+-- output bytes are written.") and "Orders" ("A refused call hands back the number, .. and lent bytes unaltered"); and a card that is written,
+-- "as in a burst" (document 02, R-1).
 -- Assumes nothing.
 use Prim.Native.Nat.{ℕ}
 use mathlib.Core.Bool.{cond}
@@ -25,9 +26,9 @@ refusedOf n output = outcome (negℤ (pos n)) output
 unfoldable pub givenOf : List ℕ → List ℕ → BurstOutcome
 givenOf frames output = outcome (pos (length frames)) (frames ++ drop (length frames) output)
 
--- 13 where the output is too short for these bytes, else what the call comes to
+-- "13: output too short" for these bytes, else what the call comes to
 unfoldable pub withRoom : List ℕ → List ℕ → BurstOutcome → BurstOutcome
-withRoom bytes output burst = cond (ltb (length output) (length bytes)) (refusedOf 13 output) burst
+withRoom bytes output otherwise = cond (ltb (length output) (length bytes)) (refusedOf 13 output) otherwise
 
 -- these bytes, or 13
 unfoldable pub fitted : List ℕ → List ℕ → BurstOutcome

@@ -36,8 +36,8 @@ fieldsOf J = fieldsBy (take J terms)
 abbrev bytesOf : ℕ → List ℕ
 bytesOf J = layout (fieldsOf J)
 
--- the bytes of a card
-abbrev pub size : ℕ → ℕ
+-- how many bytes a card has
+abbrev size : ℕ → ℕ
 size J = 10 + 5 * J
 
 read-all : listed (λ i. readFields Present (bytesOf (2 + i))) 6 ≡ listed (λ i. got (fieldsOf (2 + i)) (size (2 + i))) 6

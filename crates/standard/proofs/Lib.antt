@@ -1,3 +1,4 @@
+pub mod Edges
 pub mod Entries
 pub mod Cards
 pub mod Answers

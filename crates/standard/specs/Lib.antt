@@ -1,2 +1,3 @@
 pub mod SelfOrthogonal
+pub mod Edges
 pub mod Standard

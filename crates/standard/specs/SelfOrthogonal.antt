@@ -1,6 +1,7 @@
 -- Self-orthogonal codes of one information and one parity stream, by the report's rule (source document 004, section 3.5), which document 02,
 -- R-5, has as: "for rising offset, take the term exactly if its syndrome shares no error with the checks already taken, apart from digit 0".
--- A term is an offset of the generator; its syndrome is the check of that one offset. What a check touches is worked out by its card.
+-- A term is an offset of the generator; its syndrome is the check of that one offset. What a check touches is asked of the card that the terms
+-- before it, and this one, would give.
 -- Assumes nothing.
 use Prim.Native.Nat.{ℕ, zero, suc, _+_, _-_, _^_}
 use mathlib.Core.Bool.{cond}
@@ -48,7 +49,7 @@ touchedBefore c q b s = sumBelow q (λ r. touches c 0 r b s)
 unfoldable pub shares : Card → ℕ → ℕ
 shares c q = clashes c 0 (checkMask c 0 q) (touchedBefore c q)
 
--- the terms with a, if its syndrome shares no error with those of the terms, else without
+-- the terms, and a exactly if its syndrome shares no error with the checks already taken
 unfoldable pub withTerm : List ℕ → ℕ → List ℕ
 withTerm terms a = cond (eqb (shares (cardOf (fieldsBy (terms ++ a ∷ []))) (length terms)) 0) (terms ++ a ∷ []) terms
 

@@ -3,7 +3,7 @@
 -- Assumes nothing.
 use Prim.Native.Nat.{ℕ, _+_, _*_, _≤_}
 use mathlib.Core.Path.{_≡_}
-use mathlib.Core.Bool.{cond}
+use mathlib.Core.Bool.{cond, _&&_}
 use mathlib.Core.List.{List, [], _∷_}
 use lib.ListN.{length, take}
 use lib.Dec.{leb}
@@ -24,9 +24,9 @@ standardFields J = fieldsBy (take J standardTerms)
 unfoldable pub standardCard : ℕ → List ℕ
 standardCard J = layout (standardFields J)
 
--- the count of bytes, and 13 where the output is too short; 0 for a J outside 2 to 7, and nothing is written
+-- the count of bytes, and 13 where the output is too short; no bytes, so 0 (which is ours), for a J outside 2 to 7
 unfoldable pub standardOf : ℕ → List ℕ → BurstOutcome
-standardOf J output = cond (leb 2 J) (cond (leb J 7) (fitted (standardCard J) output) (givenOf [] output)) (givenOf [] output)
+standardOf J output = cond (leb 2 J && leb J 7) (fitted (standardCard J) output) (givenOf [] output)
 
 pub record StandardCards : Type 0 where
   -- "Up to offset 31 that gives the terms 0, 1, 3, 7, 12, 20, 30"

@@ -45,8 +45,9 @@ pub fn write_standard(checks: u32, output: &mut [u8]) -> CardWritten
     if checks < 2 || 7 < checks {
         return CardWritten::Count(0);
     }
-    let count = checks as usize;
-    let start = (count - 2) * ROW;
-    let end = start + 10 + 5 * count;
+    let terms = checks as usize;
+    let start = (terms - 2) * ROW;
+    // Ten bytes stand before the checks, and each of these has five.
+    let end = start + 10 + 5 * terms;
     give(&CARDS[start..end], output)
 }
