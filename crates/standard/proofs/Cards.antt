@@ -1,15 +1,15 @@
--- The standard cards: their terms, lengths and readings, by computing over all of them, and that each is acceptable.
+-- The standard cards: their lengths and readings, by computing over all of them, and that each is acceptable.
 use Prim.Native.Nat.{ℕ, _+_, _-_, _*_, _≤_}
 use mathlib.Core.Path.{_≡_, refl, sym, ap, subst, _∙_}
-use mathlib.Core.List.{List, [], _∷_}
+use mathlib.Core.List.{List}
 use native.Mathlib.Omega.{arith}
 use lib.ListN.{length, take, drop}
 use Rattle.bits.specs.Sums.{sumBelow, back}
 use Rattle.bits.specs.Digits.{bit}
 use Rattle.code.specs.Code.{generator}
-use Rattle.code.specs.Checks.{checkMask, touchesInfo, touchesBy, touches, besides}
+use Rattle.code.specs.Checks.{touchesInfo, touchesBy, besides}
 use Rattle.code.specs.Judging.{clashes, judge}
-use Rattle.card.specs.Fields.{Fields, store, storeRows, storeChecks, storeStreams, storeCounts, cardOf}
+use Rattle.card.specs.Fields.{Fields, store, storeRows}
 use Rattle.card.specs.Layout.{bytes4, stands, mapOf, layoutMasks, optional, layoutHead, allRows, layoutRows, layoutChecks, layoutStreams, layout, Acceptable}
 use Rattle.card.specs.Reading.{byteField, standingField, kField, nField, mapField, wordAt, maskField, readHead, standingMask, readMasks, readRows, readGenerators}
 use Rattle.card.specs.Reading.{touchedBy, readCheck, readChecks, readStreams, readFields}
@@ -17,17 +17,10 @@ use Rattle.card.specs.Reading.Read.{got}
 use Rattle.card.specs.Written.{stated}
 use Rattle.card.specs.declared.CardRule.the-variants.{Present}
 use Rattle.card.proofs.Acceptance.{read-acceptable}
-use Rattle.standard.specs.SelfOrthogonal.{lastOf, maskOf, fieldsBy, touchedBefore, shares, withTerm, termsBelow}
-use Rattle.standard.specs.Standard.{standardTerms, standardFields, standardCard, StandardCards}
+use Rattle.standard.specs.SelfOrthogonal.{lastOf, maskOf, fieldsBy}
+use Rattle.standard.specs.Standard.{standardFields, standardCard, StandardCards}
+use Rattle.standard.proofs.Terms.{terms, terms-are}
 use Rattle.standard.proofs.Entries.{listed, each}
-
--- ---- the terms
-abbrev terms : List ℕ
-terms = 0 ∷ 1 ∷ 3 ∷ 7 ∷ 12 ∷ 20 ∷ 30 ∷ []
-
-terms-are : standardTerms ≡ terms
-unfolding sumBelow back bit generator checkMask touchesInfo touchesBy touches besides clashes store storeRows storeChecks storeStreams storeCounts cardOf stated lastOf maskOf fieldsBy touchedBefore shares withTerm termsBelow standardTerms
-terms-are = refl
 
 -- ---- the cards of these terms, all six at once
 abbrev fieldsOf : ℕ → Fields

@@ -1,4 +1,4 @@
-pub mod Edges
+pub mod Terms
 pub mod Entries
 pub mod Cards
 pub mod Answers

@@ -1,4 +1,4 @@
-use Rattle.standard.proofs.Edges.{edges}
+use Rattle.standard.proofs.Terms.{edges}
 use Rattle.clients.proofs.edges.terms_are_taken.Statement.{statement}
 use Rattle.clients.proofs.edges.terms_are_taken.Tie as tie
 
