@@ -50,7 +50,7 @@ module _ (bytes output : List ℕ) where
 
   -- a count that is answered is that of the bytes, which stand in the output
   module _ {n : ℕ} {after : List ℕ} (e : outcome (pos n) after ≡ fitted bytes output) where
-    pub answered : outcome (pos n) after ≡ givenOf bytes output
+    answered : outcome (pos n) after ≡ givenOf bytes output
     unfolding refusedOf
     answered =
         ⊎-elim (λ l. e ∙ fitted-given l) (λ l. absurd (pos-ne-negsuc n 12 (ap (λ (b : BurstOutcome). b .answer) (e ∙ fitted-short l))))
