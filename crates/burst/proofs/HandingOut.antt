@@ -1,5 +1,5 @@
 -- The loop that hands frames out, one turn of it, and its end: the frames handed out are the rule's.
-use Prim.Native.Nat.{ℕ, _+_, _-_, _≤_, _<_}
+use Prim.Native.Nat.{ℕ, _+_, _-_, _^_, _≤_, _<_}
 use mathlib.Core.Path.{_≡_, refl, sym, ap, _∙_}
 use mathlib.Core.Logic.{⊎-elim}
 use mathlib.Core.List.{List, _++_}
@@ -7,11 +7,12 @@ use native.Mathlib.Numerals.{add-one}
 use native.Mathlib.Omega.{arith}
 use lib.ListN.{length, getD, set, drop, replicate}
 use Rattle.bits.specs.Sums.{upTo}
-use Rattle.bits.proofs.Lists.{part-at, part-length, part-step}
+use Rattle.bits.proofs.Lists.{part-at, part-rest, part-length, part-step}
+use Rattle.code.specs.Guarantees.{Guarantees}
 use Rattle.code.specs.declared.Card.{Card}
 use Rattle.majority.specs.Rule.{decided, corrected, decoded}
-use Rattle.burst.specs.Registers.{Registers, registers, written, TakenIn, takenOut, Corrected, correctedBy}
-use Rattle.burst.specs.Held.{With, Tables, cardWith, EveryCardWith, Carried, HandedOut}
+use Rattle.burst.specs.Registers.{Registers, registers, HasSums, written, TakenIn, takenOut, Corrected, NoneFrom, correctedBy}
+use Rattle.burst.specs.Held.{With, Tables, cardWith, Carried, Handing, HandedOut, AllHandedOut, AllHandedFrom}
 use Rattle.burst.proofs.Following.{taken-in}
 use Rattle.burst.proofs.Waiting.{start}
 use Rattle.burst.proofs.Deciding.{decided-small, fed-back, handed-out}
@@ -28,48 +29,59 @@ module _ {sums counts checks syndromes after : List ℕ} {k p errors : ℕ} (C :
       ⊎-elim (λ (w : (errors ≡ 0) × (after ≡ syndromes)). ap length (w .1) ∙ e)
       (λ w. ap length w ∙ part-length (takenOut sums syndromes errors) syndromes p (omega arith) ∙ e) (C .after-is)
 
+  pub after-none : NoneFrom p syndromes → NoneFrom p after
+  after-none z j l =
+      ⊎-elim (λ (w : (errors ≡ 0) × (after ≡ syndromes)). ap (λ y. getD y j 0) (w .1) ∙ z j l)
+      (λ w. ap (λ y. getD y j 0) w ∙ part-rest (takenOut sums syndromes errors) syndromes p j l ∙ z j l) (C .after-is)
+
   pub errors-small : errors < 16
   errors-small = decided-small counts checks syndromes k p (C .errors-are)
 
-module _ (tables : Tables) (frames : List ℕ) where
-  -- nothing is handed out before the frame of time m
-  pub hand-none : (r : Registers) (output : List ℕ) → HandedOut tables frames (tables .m) r r output output
-  unfolding upTo
-  hand-none r output g e number G B =
-      let m = tables .m in
-      let z : m - m ≡ 0 = omega arith in
-      let c = cardWith number g tables in
-      (B, sym (ap (λ n. written n (corrected c frames (decided c frames (length frames - m))) output) z))
-
-  -- one frame more, and the frame m before it handed out
-  pub hand-more : (t v : ℕ) (output₀ : List ℕ) {before now taken : Registers} {output after : List ℕ} {held errors : ℕ}
-      → tables .m ≤ t → t < length frames → length frames ≤ length output₀ + tables .m
-      → TakenIn (tables .sums) (tables .k) (tables .p) (tables .m) (getD frames t 0) now taken held
-      → Corrected (tables .sums) (tables .counts) (tables .checks) (taken .syndromes) (tables .k) (tables .p) after errors
-      → v ≡ correctedBy (getD frames (t - tables .m) 0) (tables .k) errors
-      → HandedOut tables frames t before now output₀ output
-      → HandedOut tables frames (t + 1) before (registers (taken .coming) after) output₀ (set output (t - tables .m) v)
-  hand-more t v output₀ {now = now} {taken = taken} {output = output} {after = after} {errors = errors} hm ht ho T C q handed g e number G B =
-      let c = cardWith number g tables in
-      let m = tables .m in
-      let both = handed g e number G B in
-      let sums = tables .sums in
-      let W : With c frames t taken = taken-in c G sums e frames t (getD frames t 0) refl now (both .0) T in
+-- one frame more, and the frame m before it handed out
+module _ (c : Card) (G : Guarantees c) (sums : List ℕ) (S : HasSums (c .generators) (c .k) (c .p) (2 ^ c .k) sums) (frames : List ℕ) where
+  pub hand-turn : (t v : ℕ) (output₀ : List ℕ) {now taken : Registers} {output after : List ℕ} {held errors : ℕ}
+      → c .m ≤ t → t < length frames → length frames ≤ length output₀ + c .m
+      → TakenIn sums (c .k) (c .p) (c .m) (getD frames t 0) now taken held
+      → Corrected sums (c .counts) (c .checks) (taken .syndromes) (c .k) (c .p) after errors
+      → v ≡ correctedBy (getD frames (t - c .m) 0) (c .k) errors
+      → Handing c frames output₀ t now output
+      → Handing c frames output₀ (t + 1) (registers (taken .coming) after) (set output (t - c .m) v)
+  hand-turn t v output₀ {now = now} {taken = taken} {output = output} {after = after} {errors = errors} hm ht ho T C q handing =
+      let m = c .m in
+      let W : With c frames t taken = taken-in c G sums S frames t (getD frames t 0) refl now (handing .0) T in
       let f = corrected c frames (decided c frames (length frames - m)) in
       let n : t - m + 1 ≡ t + 1 - m = omega arith in (
-        rw add-one (fed-back c G frames t taken W hm sums e after errors C),
-        part-step f output₀ (t - m) output v (omega arith) (both .1)
-            (q ∙ handed-out c G frames t taken W hm sums e after errors C (length frames - m) (omega arith))
+        rw add-one (fed-back c G frames t taken W hm sums S after errors C),
+        part-step f output₀ (t - m) output v (omega arith) (handing .1)
+            (q ∙ handed-out c G frames t taken W hm sums S after errors C (length frames - m) (omega arith))
             ∙ ap (λ x. written x f output₀) n,
       )
 
+module _ (tables : Tables) (frames : List ℕ) where
+  -- nothing is handed out between two frames
+  pub hand-none : (t : ℕ) (r : Registers) (output : List ℕ) → HandedOut tables frames t t r r output output
+  hand-none t r output g e number G output₀ same handing = handing
+
+  -- one part of a burst after the other
+  pub hand-on : (s t u : ℕ) (before mid after : Registers) (output output' output'' : List ℕ) → length output' ≡ length output
+      → HandedOut tables frames s t before mid output output' → HandedOut tables frames t u mid after output' output'' → HandedOut tables frames s u before after output output''
+  hand-on s t u before mid after output output' output'' l first second g e number G output₀ same handing =
+      second g e number G output₀ (same ∙ sym l) (first g e number G output₀ same handing)
+
+  -- all that a burst hands out, from registers that were ready for the frame of time m
+  pub all-from : {output output' : List ℕ} {filled after : Registers} → HandedOut tables frames (tables .m) (length frames) filled after output output'
+      → AllHandedFrom filled tables frames output output'
+  unfolding decoded upTo
+  all-from {output} handed g e number G B =
+      let m = tables .m in
+      let z : m - m ≡ 0 = omega arith in
+      let c = cardWith number g tables in
+      handed g e number G output refl (B, sym (ap (λ n. written n (corrected c frames (decided c frames (length frames - m))) output) z)) .1
+
   -- a whole burst, from registers of zeros
-  pub all-handed : (output₀ output : List ℕ) (filled after : Registers)
-      → Carried tables frames (tables .m) (registers (replicate 8 0) (replicate 8 0)) filled
-      → HandedOut tables frames (length frames) filled after output₀ output
-      → EveryCardWith tables (λ c. output ≡ decoded c frames ++ drop (length frames - c .m) output₀)
-  unfolding decoded
-  all-handed output₀ output filled after carried handed g e number G = handed g e number G (carried g e number G (start (cardWith number g tables) frames)) .1
+  pub all-handed : (output : List ℕ) {output' : List ℕ} {filled : Registers} → Carried tables frames (tables .m) (registers (replicate 8 0) (replicate 8 0)) filled
+      → AllHandedFrom filled tables frames output output' → AllHandedOut tables frames output output'
+  all-handed output carried handed g e number G = handed g e number G (carried g e number G (start (cardWith number g tables) frames))
 
 -- a burst of fewer than m frames
 pub none-handed : (c : Card) (frames output : List ℕ) → length frames < c .m → output ≡ decoded c frames ++ drop (length frames - c .m) output

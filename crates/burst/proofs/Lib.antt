@@ -7,3 +7,4 @@ pub mod Following
 pub mod Deciding
 pub mod Waiting
 pub mod HandingOut
+pub mod OneParity

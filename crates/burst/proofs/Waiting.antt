@@ -10,13 +10,13 @@ use lib.ListN.{length, getD, replicate}
 use borrow.Author.Tests.{lt-ltb, le-ltb, le-leb, lt-leb}
 use Rattle.bits.specs.Sums.{back}
 use Rattle.bits.specs.Digits.{bit}
-use Rattle.bits.proofs.Lists.{zeros-at, part-length}
+use Rattle.bits.proofs.Lists.{zeros-at, part-length, part-rest}
 use Rattle.bits.proofs.Back.{back-out, back-suc}
 use Rattle.bits.proofs.Cases.{le-or-lt}
 use Rattle.bits.proofs.Digits.{bit-of-zero}
 use Rattle.code.specs.declared.Card.{Card}
 use Rattle.majority.specs.Rule.{cleared, decided}
-use Rattle.burst.specs.Registers.{Registers, registers, comingNext, syndromesNext, TakenIn}
+use Rattle.burst.specs.Registers.{Registers, registers, comingNext, syndromesNext, TakenIn, NoneFrom}
 use Rattle.burst.specs.Held.{syndromeHeld, Before, With, Tables, cardWith, Carried}
 use Rattle.burst.proofs.Coming.{coming-start}
 use Rattle.burst.proofs.Following.{taken-in}
@@ -73,6 +73,10 @@ module _ {sums : List ℕ} {k p m f held : ℕ} {before after : Registers} (T : 
   pub syndromes-length : length (before .syndromes) ≡ 8 → length (after .syndromes) ≡ 8
   syndromes-length e =
       ap length (T .syndromes-is) ∙ part-length (syndromesNext sums (before .coming) (before .syndromes) k m f) (before .syndromes) p (omega arith) ∙ e
+
+  pub none-beyond : NoneFrom p (before .syndromes) → NoneFrom p (after .syndromes)
+  none-beyond z j l =
+      ap (λ y. getD y j 0) (T .syndromes-is) ∙ part-rest (syndromesNext sums (before .coming) (before .syndromes) k m f) (before .syndromes) p j l ∙ z j l
 
 -- one frame more for which nothing is handed out
 pub wait-more : (tables : Tables) (frames : List ℕ) (t : ℕ) {before now after : Registers} {held : ℕ} → t < tables .m

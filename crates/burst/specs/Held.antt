@@ -4,15 +4,15 @@
 use Prim.Native.Nat.{ℕ, suc, _+_, _-_, _*_, _%_, _^_, _<_}
 use mathlib.Core.Path.{_≡_}
 use mathlib.Core.Bool.{cond}
-use mathlib.Core.List.{List}
-use lib.ListN.{length, getD}
+use mathlib.Core.List.{List, _++_}
+use lib.ListN.{length, getD, drop}
 use lib.Dec.{leb, ltb}
 use Rattle.bits.specs.Sums.{sumBelow, back}
 use Rattle.bits.specs.Digits.{bit}
 use Rattle.code.specs.Code.{generator, digit}
 use Rattle.code.specs.declared.Card.{Card}
-use Rattle.majority.specs.Rule.{cleared, decided, corrected}
-use Rattle.burst.specs.Registers.{Registers, HasSums, written}
+use Rattle.majority.specs.Rule.{cleared, decided, corrected, decoded}
+use Rattle.burst.specs.Registers.{Registers, HasSums, written, HasPuts}
 use Rattle.burst.specs.Parts.{cardFrom, EveryCard}
 
 -- the part of parity digit j at t + a that the information digits of times before t give
@@ -59,10 +59,25 @@ EveryCardWith T P = (generators : List ℕ) → HasSums generators (T .k) (T .p)
 abbrev pub Carried : Tables → List ℕ → ℕ → Registers → Registers → Type 0
 Carried T frames t before after = EveryCardWith T (λ c. Before c frames 0 before → Before c frames t after)
 
--- registers that were ready for the frame of time m are ready for that of time t now, and the frames m before those since then are handed out
-abbrev pub HandedOut : Tables → List ℕ → ℕ → Registers → Registers → List ℕ → List ℕ → Type 0
-HandedOut T frames t before after output₀ output =
-    EveryCardWith T
-    (λ c.
-    Before c frames (c .m) before
-    → Before c frames t after × (output ≡ written (t - c .m) (corrected c frames (decided c frames (length frames - c .m))) output₀))
+-- before the frame of time t: the registers are ready for it, and the frames m before those so far stand in front of what the output was
+abbrev pub Handing : Card → List ℕ → List ℕ → ℕ → Registers → List ℕ → Type 0
+Handing c frames output₀ t r output =
+    Before c frames t r × (output ≡ written (t - c .m) (corrected c frames (decided c frames (length frames - c .m))) output₀)
+
+-- what was so before the frame of time s is so before that of time t now, whatever the output was at first
+abbrev pub HandedOut : Tables → List ℕ → ℕ → ℕ → Registers → Registers → List ℕ → List ℕ → Type 0
+HandedOut T frames s t before after output output' =
+    EveryCardWith T (λ c. (output₀ : List ℕ) → length output₀ ≡ length output → Handing c frames output₀ s before output → Handing c frames output₀ t after output')
+
+-- the frames of a whole burst are handed out
+abbrev pub AllHandedOut : Tables → List ℕ → List ℕ → List ℕ → Type 0
+AllHandedOut T frames output output' = EveryCardWith T (λ c. output' ≡ decoded c frames ++ drop (length frames - c .m) output)
+
+-- the same, if these registers were ready for the frame of time m
+abbrev pub AllHandedFrom : Registers → Tables → List ℕ → List ℕ → List ℕ → Type 0
+AllHandedFrom filled T frames output output' =
+    EveryCardWith T (λ c. Before c frames (c .m) filled → output' ≡ decoded c frames ++ drop (length frames - c .m) output)
+
+-- every table of sums from which these are, what each frame puts into the word of one parity stream, and every counts and checks beside it
+abbrev pub EveryTables : List ℕ → ℕ → ℕ → (Tables → Type 0) → Type 0
+EveryTables puts k m P = (sums counts checks : List ℕ) → HasPuts sums k m (2 ^ (k + 1)) puts → P (tables sums counts checks k 1 m)

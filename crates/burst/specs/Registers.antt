@@ -1,11 +1,11 @@
 -- The burst receiver by registers: what its functions compute, for tables and registers of every value. Nobody has to believe this file: the
 -- laws in proofs/ tie it to the rule on whole streams (`majority`, `Rule`).
 -- Assumes nothing.
-use Prim.Native.Nat.{ℕ, _+_, _*_, _/_, _%_, _^_, _<_}
+use Prim.Native.Nat.{ℕ, _+_, _*_, _/_, _%_, _^_, _≤_, _<_}
 use mathlib.Core.Path.{_≡_}
 use mathlib.Core.Logic.{_⊎_}
-use mathlib.Core.List.{List, _++_}
-use lib.ListN.{getD, drop}
+use mathlib.Core.List.{List, _∷_, _++_}
+use lib.ListN.{getD, drop, replicate}
 use lib.Bits.{bitXor}
 use Rattle.bits.specs.Sums.{xorBelow, upTo}
 use Rattle.bits.specs.Digits.{bit, shiftUp}
@@ -59,6 +59,22 @@ pub record Corrected (sums counts checks syndromes : List ℕ) (k p : ℕ) (afte
   pub errors-are : errors ≡ decideBy counts checks syndromes k p
   pub after-is : ((errors ≡ 0) × (after ≡ syndromes)) ⊎ (after ≡ written p (takenOut sums syndromes errors) syndromes)
 
+-- no register from the p-th on has a 1
+abbrev pub NoneFrom : ℕ → List ℕ → Type 0
+NoneFrom p registers = (j : ℕ) → p ≤ j → getD registers j 0 ≡ 0
+
 -- streams 1 to k of a frame, the errors e added
 unfoldable pub correctedBy : ℕ → ℕ → ℕ → ℕ
 correctedBy f k e = bitXor (f % 2 ^ k) e
+
+-- ---- one parity stream, its two registers in one word: the syndromes in places 0 to m, the parity digits to come above them
+abbrev pub inOne : ℕ → ℕ → Registers
+inOne m word = registers (word / 2 ^ (m + 1) ∷ replicate 7 0) (word % 2 ^ (m + 1) ∷ replicate 7 0)
+
+-- what frame f puts into the word: the generators of its information digits and its parity digit, from place m on
+unfoldable pub putOf : List ℕ → ℕ → ℕ → ℕ → ℕ
+putOf sums k m f = bitXor (getD sums (f % 2 ^ k * 8) 0) (f / 2 ^ k % 2) * 2 ^ m
+
+-- the table has what each frame below n puts in
+abbrev pub HasPuts : List ℕ → ℕ → ℕ → ℕ → List ℕ → Type 0
+HasPuts sums k m n puts = (f : ℕ) → f < n → getD puts f 0 ≡ putOf sums k m f

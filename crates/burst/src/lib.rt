@@ -1,5 +1,7 @@
 // What the controller firmware calls: whole bursts of frames, a card written out, and the standard cards.
 mod answer;
+mod one_parity;
+mod parities;
 pub mod receive;
 mod registers;
 pub mod send;

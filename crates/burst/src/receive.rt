@@ -1,79 +1,23 @@
 // Receiving a whole burst: the frames of all streams in, the corrected information frames out. Each frame that is handed out is read again from
 // the input.
 ghost use mathlib.Core.Path.{_≡_};
-ghost use mathlib.Core.List.{List, _++_};
-ghost use Prim.Native.Nat.{ℕ, _+_, _-_, _≤_};
+ghost use mathlib.Core.List.{_++_};
+ghost use Prim.Native.Nat.{_+_, _-_, _≤_};
 ghost use lib.ListN.{length, drop};
 ghost use Rattle.majority.specs.Rule.{decoded};
 ghost use Rattle.outcomes.specs.Outcome.{outcome};
 ghost use Rattle.outcomes.specs.Receiving.{receiveUnder, receiveOf};
 ghost use Rattle.outcomes.specs.Claims.{ComesOutAsSent};
-ghost use Rattle.burst.specs.Registers.{registers};
 ghost use Rattle.burst.specs.Parts.{EveryCard};
-ghost use Rattle.burst.specs.Held.{tables, Carried, HandedOut};
 use crate::answer::counted;
 use crate::answer::refused;
-use crate::registers::correct;
-use crate::registers::corrected;
+use crate::one_parity;
+use crate::parities;
 use crate::registers::generator_sums;
-use crate::registers::take_in;
 use card::CardRule;
 use card::Refusal;
 use card::Verdict;
 use code::MOST_FRAMES;
-
-// The first m frames, for which nothing is handed out.
-fn fill(
-    syndromes: &mut [u32; 8],
-    coming: &mut [u32; 8],
-    sums: &[u32; 128],
-    k: usize,
-    p: usize,
-    m: usize,
-    input: &[u8],
-)
-    requires { ⌜ (k ≤ 4) × (k + p ≤ 8) × (m ≤ 31) × (m ≤ length (now input)) ⌝ }
-    requires { ⌜ (length (now syndromes) ≡ 8) × (length (now coming) ≡ 8) ⌝ }
-    ensures { λ r. ⌜ (length (now (syndromes .exit)) ≡ 8) × (length (now (coming .exit)) ≡ 8) ⌝ }
-    ensures { λ r. ⌜ ((counts checks : List ℕ) → Carried (tables (now (sums .entry)) counts checks k p m) (now (input .entry)) m
-        (registers (now (coming .entry)) (now (syndromes .entry))) (registers (now (coming .exit)) (now (syndromes .exit)))) ⌝ }
-{
-    let mut t = 0;
-    while t < m {
-        take_in(syndromes, coming, sums, k, p, m, input[t]);
-        t += 1;
-    }
-}
-
-// For each frame after the first m the one m before it, corrected.
-fn hand_out<'a>(
-    syndromes: &mut [u32; 8],
-    coming: &mut [u32; 8],
-    sums: &[u32; 128],
-    counts: &'a [usize; 4],
-    checks: &'a [u32; 512],
-    k: usize,
-    p: usize,
-    m: usize,
-    input: &[u8],
-    output: &mut [u8],
-)
-    requires { ⌜ (k ≤ 4) × (k + p ≤ 8) × (m ≤ 31) ⌝ }
-    requires { ⌜ (length (now syndromes) ≡ 8) × (length (now coming) ≡ 8) ⌝ }
-    requires { ⌜ (m ≤ length (now input)) × (length (now input) ≤ length (now output) + m) ⌝ }
-    ensures { λ r. ⌜ HandedOut (tables (now (sums .entry)) (now (counts .entry)) (now (checks .entry)) k p m) (now (input .entry)) (length (now (input .entry)))
-        (registers (now (coming .entry)) (now (syndromes .entry))) (registers (now (coming .exit)) (now (syndromes .exit)))
-        (now (output .entry)) (now (output .exit)) ⌝ }
-{
-    let mut t = m;
-    while t < input.len() {
-        let held = take_in(syndromes, coming, sums, k, p, m, input[t]);
-        let errors = correct(syndromes, held, sums, counts, checks, k, p);
-        let u = t - m;
-        output[u] = corrected(input[u], k, errors);
-        t += 1;
-    }
-}
 
 // The frames that the rule hands out for a burst under a card with these tables.
 fn receive_frames<'a>(
@@ -95,21 +39,11 @@ fn receive_frames<'a>(
         return;
     }
     let sums = generator_sums(generators, k, p);
-    let mut syndromes = [0u32; 8];
-    let mut coming = [0u32; 8];
-    fill(&mut syndromes, &mut coming, &sums, k, p, m, input);
-    hand_out(
-        &mut syndromes,
-        &mut coming,
-        &sums,
-        counts,
-        checks,
-        k,
-        p,
-        m,
-        input,
-        output,
-    );
+    if p == 1 {
+        one_parity::receive(&sums, counts, checks, k, m, input, output);
+        return;
+    }
+    parities::receive(&sums, counts, checks, k, p, m, input, output);
 }
 
 // How many frames are handed out for so many received.

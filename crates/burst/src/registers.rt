@@ -6,7 +6,7 @@ ghost use Prim.Native.Nat.{ℕ, _+_, _/_, _%_, _^_, _<_, _≤_};
 ghost use lib.ListN.{getD, length};
 ghost use lib.Bits.{bitXor};
 ghost use Rattle.bits.specs.Digits.{shiftUp};
-ghost use Rattle.burst.specs.Registers.{registers, generatorSum, HasSums, TakenIn, written, takenOut, Corrected, correctedBy};
+ghost use Rattle.burst.specs.Registers.{registers, generatorSum, HasSums, TakenIn, written, takenOut, Corrected, NoneFrom, correctedBy};
 
 // Streams 1 to k of a frame.
 fn information(frame: u8, k: usize) -> u32
@@ -111,7 +111,8 @@ fn take_out(syndromes: &mut [u32; 8], sums: &[u32; 128], p: usize, errors: u32)
     }
 }
 
-// The errors of the frame m before the last one taken in, decided and fed back. While no syndrome held is 1 there is no vote.
+// The errors of the frame m before the last one taken in, decided and fed back. While no syndrome held is 1 there is no vote. All eight registers
+// vote: a number that the compiler knows is faster than p, and those from the p-th on have no 1.
 pub(crate) fn correct<'a>(
     syndromes: &mut [u32; 8],
     held: u32,
@@ -122,13 +123,13 @@ pub(crate) fn correct<'a>(
     p: usize,
 ) -> u32
     requires { ⌜ (p ≤ 8) × (length (now syndromes) ≡ 8) ⌝ }
-    requires { ⌜ (held ≡ 0 → (j : ℕ) → j < p → getD (now syndromes) j 0 ≡ 0) ⌝ }
+    requires { ⌜ (held ≡ 0 → (j : ℕ) → j < p → getD (now syndromes) j 0 ≡ 0) × NoneFrom p (now syndromes) ⌝ }
     ensures { λ r. ⌜ Corrected (now (sums .entry)) (now (counts .entry)) (now (checks .entry)) (now (syndromes .entry)) k p (now (syndromes .exit)) r ⌝ }
 {
     if held == 0 {
         return 0;
     }
-    let errors = majority::decide(counts, checks, syndromes, k, p);
+    let errors = majority::decide(counts, checks, syndromes, k, 8);
     if errors != 0 {
         take_out(syndromes, sums, p, errors);
     }

@@ -78,6 +78,11 @@ module _ (counts checks syndromes : List ℕ) (p : ℕ) where
       ap₂ (λ x y. x + shiftUp y i) q r ∙ ap (λ x. fromDigits i errorOf + x) (shift-digit _ i (majority-lt checks syndromes p i _) h)
       ∙ sym (sum-more i (λ a. errorOf a * 2 ^ a))
 
+-- a word that has no 1 has none in common with a mask
+dot-none : (x : ℕ) {y : ℕ} → y ≡ 0 → dot x y ≡ 0
+unfolding dot
+dot-none x e = ap (λ y. sumBelow 32 (λ a. bit x a * bit y a)) e ∙ sum-none 32 _ (λ a l. ap (λ d. bit x a * d) (bit-of-zero a) ∙ omega arith)
+
 -- ---- what is decided
 module _ (counts checks syndromes : List ℕ) (k p : ℕ) where
   pub decide-lt : decideBy counts checks syndromes k p < 2 ^ 4
@@ -91,11 +96,9 @@ module _ (counts checks syndromes : List ℕ) (k p : ℕ) where
   -- registers that hold no 1 vote for nothing
   module _ (none : (j : ℕ) → j < p → getD syndromes j 0 ≡ 0) where
     check-none : (at : ℕ) → checkBy checks at syndromes (min p 8) ≡ 0
-    unfolding checkBy dot
+    unfolding checkBy
     check-none at =
-        ap (λ n. n % 2)
-        (sum-none (min p 8) (λ j. dot (getD checks (at + j) 0) (getD syndromes j 0))
-        (λ j l. ap (λ y. dot (getD checks (at + j) 0) y) (none j (omega arith)) ∙ sum-none 32 _ (λ a q. ap (λ d. bit (getD checks (at + j) 0) a * d) (bit-of-zero a) ∙ omega arith)))
+        ap (λ n. n % 2) (sum-none (min p 8) (λ j. dot (getD checks (at + j) 0) (getD syndromes j 0)) (λ j l. dot-none _ (none j (omega arith))))
 
     majority-none : (i n : ℕ) → majorityBy checks syndromes (min p 8) i n ≡ 0
     unfolding majorityBy votesBy
@@ -106,6 +109,21 @@ module _ (counts checks syndromes : List ℕ) (k p : ℕ) where
     pub decide-none : decideBy counts checks syndromes k p ≡ 0
     unfolding decideBy fromDigits
     decide-none = sum-none (min k 4) _ (λ i l. ap (λ d. d * 2 ^ i) (majority-none i _) ∙ omega arith)
+
+  -- registers from the p-th on that hold no 1 may vote as well
+  module _ (most : p ≤ 8) (none : (j : ℕ) → p ≤ j → getD syndromes j 0 ≡ 0) where
+    check-wider : (at : ℕ) → checkBy checks at syndromes 8 ≡ checkBy checks at syndromes (min p 8)
+    unfolding checkBy
+    check-wider at =
+        ap (λ n. n % 2) (sum-cut 8 (min p 8) (λ j. dot (getD checks (at + j) 0) (getD syndromes j 0)) (omega arith) (λ j l. dot-none _ (none j (omega arith))))
+
+    pub decide-wider : decideBy counts checks syndromes k 8 ≡ decideBy counts checks syndromes k p
+    unfolding decideBy majorityBy votesBy
+    decide-wider =
+        from-digits-same (min k 4) _ _
+        (λ i l.
+        let n = min (getD counts i 0) 16 in
+        ap (λ v. cond (ltb n (2 * v)) 1 0) (sum-cong n (λ q. check-wider (i * 128 + q * 8))))
 
 -- ---- registers that hold the syndromes of times u to u + m decide as the rule does
 module _ (c : Card) (G : Guarantees c) (frames errors : List ℕ) (u : ℕ) (syndromes : List ℕ)

@@ -4,17 +4,18 @@ use mathlib.Core.Path.{_≡_, _∙_}
 use native.Mathlib.Nat.{le-antisymm}
 use native.Mathlib.Omega.{arith}
 use lib.ListN.{length, length-set}
-use Rattle.burst.specs.Registers.{registers}
+use Rattle.burst.specs.Registers.{registers, NoneFrom}
+use Rattle.burst.specs.Parts.{cardFrom}
 use Rattle.burst.specs.Held.{tables, HandedOut}
-use Rattle.burst.proofs.Waiting.{coming-length, syndromes-length}
-use Rattle.burst.proofs.HandingOut.{none-written, after-length, errors-small, hand-more, hand-none}
-use Rattle.burst.proofs.receive.hand_out.Statement.{statement}
-use Rattle.burst.proofs.receive.hand_out.Tie as tie
+use Rattle.burst.proofs.Waiting.{coming-length, syndromes-length, none-beyond}
+use Rattle.burst.proofs.HandingOut.{none-written, after-length, after-none, errors-small, hand-turn, hand-none, all-from}
+use Rattle.burst.proofs.parities.hand_out.Statement.{statement}
+use Rattle.burst.proofs.parities.hand_out.Tie as tie
 
 abbrev Inv-loop : tie.InvT-loop
 Inv-loop syndromes₀ coming₀ sums counts checks k p m input output₀ t₀ syndromes coming output t =
-    (m ≤ t) × (t ≤ length input) × (length syndromes ≡ 8) × (length coming ≡ 8) × (length output ≡ length output₀)
-    × HandedOut (tables sums counts checks k p m) input t (registers coming₀ syndromes₀) (registers coming syndromes) output₀ output
+    (m ≤ t) × (t ≤ length input) × (length syndromes ≡ 8) × (length coming ≡ 8) × NoneFrom p syndromes × (length output ≡ length output₀)
+    × HandedOut (tables sums counts checks k p m) input m t (registers coming₀ syndromes₀) (registers coming syndromes) output₀ output
 
 abbrev μ-loop : tie.MeasureT-loop
 μ-loop syndromes₀ coming₀ sums counts checks k p m input output₀ t₀ syndromes coming output t = length input - t
@@ -26,8 +27,9 @@ loop-holds c =
       omega arith,
       omega arith,
       omega arith,
+      c .before .before .pre .1 .0 .2,
       omega arith,
-      hand-none (tables (a .sums .now) (a .counts .now) (a .checks .now) (a .k) (a .p) (a .m)) (a .input .now) (registers (a .coming .now) (a .syndromes .now)) (a .output .now),
+      hand-none (tables (a .sums .now) (a .counts .now) (a .checks .now) (a .k) (a .p) (a .m)) (a .input .now) (a .m) (registers (a .coming .now) (a .syndromes .now)) (a .output .now),
     )
 
 shared-slice-read-take-in : tie.Need-shared-slice-read-take-in Inv-loop μ-loop
@@ -40,7 +42,7 @@ correct-requires : tie.Need-correct-requires Inv-loop μ-loop
 correct-requires c κs =
     let T = c .before .take-in .ensures in
     let l = c .before .before .before .before .before .before .loop in
-    ((omega arith, syndromes-length T (omega arith) (l .inv .2)), none-written T)
+    ((omega arith, syndromes-length T (omega arith) (l .inv .2)), (none-written T, none-beyond T (omega arith) (l .inv .4)))
 
 sub-u : tie.Need-sub-u Inv-loop μ-loop
 sub-u c = omega arith
@@ -70,19 +72,22 @@ loop-again c =
       omega arith,
       after-length C (omega arith) (syndromes-length T (omega arith) (l .inv .2)),
       coming-length T (omega arith) (l .inv .3),
-      length-set (l .output) (l .t - a .m) (c .corrected .result) ∙ l .inv .4,
-      hand-more (tables (a .sums .now) (a .counts .now) (a .checks .now) (a .k) (a .p) (a .m)) (a .input .now) (l .t) (c .corrected .result) (a .output .now) (l .inv .0) (omega arith) (omega arith) T C (c .corrected .ensures) (l .inv .5),
+      after-none C (none-beyond T (omega arith) (l .inv .4)),
+      length-set (l .output) (l .t - a .m) (c .corrected .result) ∙ l .inv .5,
+      λ g e number G output₀ same handing.
+          hand-turn (cardFrom number g (a .counts .now) (a .checks .now) (a .k) (a .p) (a .m)) G (a .sums .now) e (a .input .now) (l .t) (c .corrected .result) output₀
+          (l .inv .0) (omega arith) (omega arith) T C (c .corrected .ensures) (l .inv .6 g e number G output₀ same handing),
     )
 
 same-length : tie.Need-same-length Inv-loop μ-loop
-same-length c = c .before .loop .inv .4
+same-length c = c .before .loop .inv .5
 
 returns : tie.Need-returns Inv-loop μ-loop
 returns c =
     let l = c .before .loop in
     let a = c .before .before .before .before .args in
     let e : l .t ≡ length (a .input .now) = le-antisymm (l .inv .1) (c .loop-test .left) in
-    rw e at (l .inv .5)
+    all-from (tables (a .sums .now) (a .counts .now) (a .checks .now) (a .k) (a .p) (a .m)) (a .input .now) (rw e at (l .inv .6))
 
 pub hand-out-spec : {M : Type 1} → statement M
 hand-out-spec =

@@ -1,0 +1,34 @@
+use mathlib.Core.Path.{subst}
+use Rattle.burst.specs.Registers.{inOne}
+use Rattle.burst.specs.Held.{tables, Carried}
+use Rattle.burst.proofs.HandingOut.{all-handed}
+use Rattle.burst.proofs.OneParity.{of-zeros}
+use borrow.Author.Needs.{needs}
+use Rattle.burst.proofs.one_parity.receive.Statement.{statement}
+use Rattle.burst.proofs.one_parity.receive.Tie as tie
+
+puts-requires : tie.Need-puts-requires
+puts-requires c κs = search needs
+
+fill-requires : tie.Need-fill-requires
+fill-requires c κs = search needs
+
+hand-out-requires : tie.Need-hand-out-requires
+hand-out-requires c κs = search needs
+
+same-length : tie.Need-same-length
+same-length c = search needs
+
+returns : tie.Need-returns
+returns c =
+    let a = c .before .before .before .before .before .before .before .before .before .before .args in
+    let T = tables (a .sums .now) (a .counts .now) (a .checks .now) (a .k) 1 (a .m) in
+    let filled = c .before .before .before .before .before .fill in
+    let P = c .before .before .before .before .before .before .before .puts .ensures in
+    all-handed T (a .input .now) (a .output .now)
+    (subst (λ r. Carried T (a .input .now) (a .m) r (inOne (a .m) (filled .result))) (of-zeros (a .m)) (filled .ensures (a .sums .now) (a .counts .now) (a .checks .now) P))
+    (c .before .before .hand-out .ensures P)
+
+pub receive-spec : {M : Type 1} → statement M
+receive-spec =
+    tie.close (tie.spec puts-requires fill-requires hand-out-requires same-length returns)

@@ -1,0 +1,195 @@
+// Receiving under a card with one parity stream, as most have. The stream's two registers are one word, which stays in a local: the syndromes in
+// places 0 to m, the parity digits to come above them. A place further, the digit to come for the frame's time stands at place m, and with the frame's own
+// digits put in there it is the frame's syndrome.
+ghost use mathlib.Core.Path.{_≡_};
+ghost use mathlib.Core.Logic.{_⊎_};
+ghost use Prim.Native.Nat.{ℕ, _+_, _*_, _/_, _%_, _^_, _<_, _≤_};
+ghost use lib.Bits.{bitXor};
+ghost use lib.ListN.{length, getD};
+ghost use Rattle.burst.specs.Registers.{inOne, putOf, HasPuts};
+ghost use Rattle.burst.specs.Held.{tables, Carried, HandedOut, AllHandedOut, AllHandedFrom, EveryTables};
+use crate::registers::corrected;
+
+// A short word as a long one.
+fn long(x: u32) -> u64
+    ensures { λ r. ⌜ (r ≡ x) × (r < 2 ^ 32) ⌝ }
+{
+    x as u64
+}
+
+// What a frame puts into the word.
+fn put(sums: &[u32; 128], k: usize, m: usize, frame: u32) -> u64
+    requires { ⌜ (k ≤ 4) × (m ≤ 31) ⌝ }
+    ensures { λ r. ⌜ r ≡ putOf (now (sums .entry)) k m frame ⌝ }
+{
+    let sum = sums[bits::index(frame % (1 << k)) * 8];
+    long(sum ^ (frame >> k) % 2) << m
+}
+
+// The same for each frame of k + 1 digits, at its number.
+fn puts(sums: &[u32; 128], k: usize, m: usize) -> [u64; 32]
+    requires { ⌜ (k ≤ 4) × (m ≤ 31) ⌝ }
+    ensures { λ r. ⌜ HasPuts (now (sums .entry)) k m (2 ^ (k + 1)) r ⌝ }
+{
+    let mut all = [0u64; 32];
+    let mut frame: u32 = 0;
+    while frame < 2 << k {
+        all[bits::index(frame)] = put(sums, k, m, frame);
+        frame += 1;
+    }
+    all
+}
+
+// The word a place further, with a frame put in.
+fn taken_in(word: u64, puts: &[u64; 32], k: usize, frame: u8) -> u64
+    requires { ⌜ k ≤ 4 ⌝ }
+    ensures { λ r. ⌜ r ≡ bitXor (word / 2) (getD (now (puts .entry)) (frame % 2 ^ (k + 1)) 0) ⌝ }
+{
+    word >> 1 ^ puts[bits::size(frame) % (2 << k)]
+}
+
+// The syndromes held.
+fn syndromes(word: u64, m: usize) -> u32
+    requires { ⌜ m ≤ 31 ⌝ }
+    ensures { λ r. ⌜ r ≡ word % 2 ^ (m + 1) ⌝ }
+{
+    (word % (2 << m)) as u32
+}
+
+// Errors fed back: their generators taken out of the syndromes. The branch keeps the table off the way from one frame to the next.
+fn fed_back(word: u64, sums: &[u32; 128], errors: u32) -> u64
+    requires { ⌜ errors < 16 ⌝ }
+    ensures { λ r. ⌜ ((errors ≡ 0) × (r ≡ word)) ⊎ (r ≡ bitXor word (getD (now (sums .entry)) (errors * 8) 0)) ⌝ }
+{
+    if errors == 0 {
+        return word;
+    }
+    word ^ long(sums[bits::index(errors) * 8])
+}
+
+// The first m frames, for which nothing is handed out.
+fn fill(puts: &[u64; 32], k: usize, m: usize, input: &[u8]) -> u64
+    requires { ⌜ (k ≤ 4) × (m ≤ 31) × (m ≤ length (now input)) ⌝ }
+    ensures { λ r. ⌜ EveryTables (now (puts .entry)) k m (λ T. Carried T (now (input .entry)) m (inOne m 0) (inOne m r)) ⌝ }
+{
+    let mut word: u64 = 0;
+    let mut t = 0;
+    while t < m {
+        word = taken_in(word, puts, k, input[t]);
+        t += 1;
+    }
+    word
+}
+
+// How far a loop came: the frame that it takes in next, and the word before it.
+struct Reached {
+    word: u64,
+    t: usize,
+}
+
+// While no frame brings a syndrome of 1 there is no vote: the frames m before are handed out as they came.
+fn hand_through(
+    before: u64,
+    puts: &[u64; 32],
+    k: usize,
+    m: usize,
+    from: usize,
+    input: &[u8],
+    output: &mut [u8],
+) -> Reached
+    requires { ⌜ (k ≤ 4) × (m ≤ 31) × (m ≤ from) × (from ≤ length (now input)) ⌝ }
+    requires { ⌜ length (now input) ≤ length (now output) + m ⌝ }
+    ensures { λ r. ⌜ (from ≤ r .t) × (r .t ≤ length (now (input .entry))) ⌝ }
+    ensures { λ r. ⌜ EveryTables (now (puts .entry)) k m (λ T. HandedOut T (now (input .entry)) from (r .t) (inOne m before) (inOne m (r .word)) (now (output .entry)) (now (output .exit))) ⌝ }
+{
+    let mut word = before;
+    let mut t = from;
+    while t < input.len() {
+        let next = taken_in(word, puts, k, input[t]);
+        if syndromes(next, m) != 0 {
+            return Reached { word, t };
+        }
+        let u = t - m;
+        output[u] = corrected(input[u], k, 0);
+        word = next;
+        t += 1;
+    }
+    Reached { word, t }
+}
+
+// One frame taken in, the errors of the frame m before it decided and fed back, and that frame handed out with them corrected.
+fn hand_corrected<'a>(
+    before: u64,
+    puts: &[u64; 32],
+    sums: &[u32; 128],
+    counts: &'a [usize; 4],
+    checks: &'a [u32; 512],
+    k: usize,
+    m: usize,
+    t: usize,
+    input: &[u8],
+    output: &mut [u8],
+) -> u64
+    requires { ⌜ (k ≤ 4) × (m ≤ 31) × (m ≤ t) × (t < length (now input)) ⌝ }
+    requires { ⌜ length (now input) ≤ length (now output) + m ⌝ }
+    ensures { λ r. ⌜ (HasPuts (now (sums .entry)) k m (2 ^ (k + 1)) (now (puts .entry))
+        → HandedOut (tables (now (sums .entry)) (now (counts .entry)) (now (checks .entry)) k 1 m) (now (input .entry)) t (t + 1) (inOne m before) (inOne m r)
+        (now (output .entry)) (now (output .exit))) ⌝ }
+{
+    let word = taken_in(before, puts, k, input[t]);
+    let held = [syndromes(word, m), 0, 0, 0, 0, 0, 0, 0];
+    let errors = majority::decide(counts, checks, &held, k, 1);
+    let u = t - m;
+    output[u] = corrected(input[u], k, errors);
+    fed_back(word, sums, errors)
+}
+
+// For each frame after the first m the one m before it, corrected.
+fn hand_out<'a>(
+    filled: u64,
+    puts: &[u64; 32],
+    sums: &[u32; 128],
+    counts: &'a [usize; 4],
+    checks: &'a [u32; 512],
+    k: usize,
+    m: usize,
+    input: &[u8],
+    output: &mut [u8],
+)
+    requires { ⌜ (k ≤ 4) × (m ≤ 31) ⌝ }
+    requires { ⌜ (m ≤ length (now input)) × (length (now input) ≤ length (now output) + m) ⌝ }
+    ensures { λ r. ⌜ (HasPuts (now (sums .entry)) k m (2 ^ (k + 1)) (now (puts .entry))
+        → AllHandedFrom (inOne m filled) (tables (now (sums .entry)) (now (counts .entry)) (now (checks .entry)) k 1 m) (now (input .entry)) (now (output .entry)) (now (output .exit))) ⌝ }
+{
+    let mut word = filled;
+    let mut t = m;
+    while t < input.len() {
+        let reached = hand_through(word, puts, k, m, t, input, output);
+        word = reached.word;
+        t = reached.t;
+        if t == input.len() {
+            return;
+        }
+        word = hand_corrected(word, puts, sums, counts, checks, k, m, t, input, output);
+        t += 1;
+    }
+}
+
+// A whole burst of m frames or more.
+pub(crate) fn receive<'a>(
+    sums: &[u32; 128],
+    counts: &'a [usize; 4],
+    checks: &'a [u32; 512],
+    k: usize,
+    m: usize,
+    input: &[u8],
+    output: &mut [u8],
+)
+    requires { ⌜ (k ≤ 4) × (m ≤ 31) ⌝ }
+    requires { ⌜ (m ≤ length (now input)) × (length (now input) ≤ length (now output) + m) ⌝ }
+    ensures { λ r. ⌜ AllHandedOut (tables (now (sums .entry)) (now (counts .entry)) (now (checks .entry)) k 1 m) (now (input .entry)) (now (output .entry)) (now (output .exit)) ⌝ }
+{
+    let puts = puts(sums, k, m);
+    let filled = fill(&puts, k, m, input);
+    hand_out(filled, &puts, sums, counts, checks, k, m, input, output);
+}
