@@ -4,25 +4,28 @@ use Prim.Native.Nat.{ℕ, zero, suc, _-_, _+_, _*_, _/_, _%_, _^_, _≤_, _<_}
 use mathlib.Core.Path.{_≡_, refl, sym, ap, ap₂, _∙_, subst}
 use mathlib.Core.Logic.{_⊎_, inl, inr, ⊎-elim}
 use mathlib.Core.List.{List, _∷_, _++_}
-use native.Mathlib.Nat.{zero-div, zero-mod, mul-le-mul-left, mod-lt, mod-eq-of-lt, div-eq-of-lt, zero-lt-suc, add-zero, add-comm, add-assoc, add-mul, mul-assoc, pow-succ', div-add-mod', div-one}
+use native.Mathlib.Nat.{lt-of-lt-of-le, zero-div, zero-mod, mul-le-mul-left, mod-lt, mod-eq-of-lt, div-eq-of-lt, zero-lt-suc, add-zero, add-comm, add-assoc, add-mul, mul-assoc, pow-succ', div-add-mod', div-one}
 use native.Mathlib.Numerals.{add-one}
 use native.Mathlib.Omega.{arith}
 use lib.ListN.{length, getD, set, drop, replicate}
 use lib.Bits.{bitXor, xor-lt, block-half, xor-comm, xor-zero-r, xor-shifted, xor-block, xor-shr, xor-mod}
-use lib.Pow.{pow-pos, split, high, low, shl-exact, mod-mod-pow, field}
-use Rattle.bits.specs.Sums.{xorBelow, upTo}
+use lib.Count.{ones}
+use lib.Pow.{pow-pos, pow-mono, split, high, low, shl-exact, mod-mod-pow, field}
+use Rattle.bits.specs.Sums.{sumBelow, xorBelow, upTo}
 use Rattle.bits.specs.Digits.{bit, shiftUp}
-use Rattle.bits.proofs.Digits.{bit-lt, bit-zero, bit-xor, digits-lt}
+use Rattle.bits.proofs.Digits.{bit-lt, bit-zero, bit-xor, digits-lt, ones-sum}
 use Rattle.bits.proofs.Words.{shift-digit}
+use Rattle.code.specs.Checks.{count}
 use Rattle.code.specs.Guarantees.{Guarantees}
 use Rattle.code.specs.declared.Card.{Card}
 use Rattle.majority.specs.Rule.{decoded}
 use Rattle.majority.specs.Voting.{decideBy}
-use Rattle.majority.proofs.Voting.{decide-lt-k, decide-none}
+use Rattle.majority.proofs.Voting.{decide-lt-k}
+use Rattle.majority.proofs.FewOnes.{decide-few}
 use Rattle.burst.specs.Parts.{cardFrom, EveryCard}
 use Rattle.burst.specs.Held.{tables, Handing, AllHandedOut}
 use Rattle.burst.proofs.HandingOut.{hand-turn}
-use Rattle.burst.specs.Registers.{Registers, registers, generatorSum, HasSums, parityWith, comingNext, syndromesNext, written, TakenIn, takenOut, Corrected, correctedBy, inOne, putOf, HasPuts}
+use Rattle.burst.specs.Registers.{Registers, registers, generatorSum, HasSums, parityWith, comingNext, syndromesNext, written, TakenIn, takenOut, Corrected, correctedBy, AtLeast, inOne, putOf, HasPuts}
 
 -- twice a power of two, shifted up within the word
 pub twice-is : (k w : ℕ) → k + 2 ≤ w → 2 * 2 ^ k % 2 ^ w ≡ 2 ^ (k + 1)
@@ -200,18 +203,21 @@ module _ (number : ℕ) (g counts checks : List ℕ) (k m : ℕ) (G : Guarantees
       subst (λ x. Handing c frames output₀ (t + 1) (registers (x ∷ replicate 7 0) (inOne m next .syndromes)) (set output (t - m) v)) (sym (both .0))
       (hand-turn c G sums S frames t v output₀ hm ht ho (taken-into sums k m (getD frames t 0) word (G .m-most) e) (both .1) q handing)
 
-  -- and nothing is decided while no syndrome is held
-  pub word-through : (t v word : ℕ) (output₀ : List ℕ) {next : ℕ} {output : List ℕ}
+  -- nothing is decided to be wrong while too few syndromes are 1
+  few-held : (held least : ℕ) → held < 2 ^ 32 → AtLeast counts k least → 2 * ones held ≤ least → decideBy counts checks (held ∷ replicate 7 0) k 1 ≡ 0
+  unfolding sumBelow count
+  few-held held least hh counted few = decide-few (cardFrom number g counts checks k 1 m) G (held ∷ replicate 7 0) (λ i l. omega (arith, few, counted i l, ones-sum 32 held hh))
+
+  pub word-through : (t v word least : ℕ) (output₀ : List ℕ) {next : ℕ} {output : List ℕ}
       → m ≤ t → t < length frames → length frames ≤ length output₀ + m
       → next ≡ bitXor (word / 2) (putOf sums k m (getD frames t 0))
-      → next % 2 ^ (m + 1) ≡ 0
+      → AtLeast counts k least → 2 * ones (next % 2 ^ (m + 1)) ≤ least
       → v ≡ correctedBy (getD frames (t - m) 0) k 0
       → Handing (cardFrom number g counts checks k 1 m) frames output₀ t (inOne m word) output
       → Handing (cardFrom number g counts checks k 1 m) frames output₀ (t + 1) (inOne m next) (set output (t - m) v)
-  word-through t v word output₀ {next} hm ht ho e z q handing =
-      word-turn t v word output₀ hm ht ho e
-      (sym (decide-none counts checks (inOne m next .syndromes) k 1 (λ j l. let n : j ≡ 0 = omega arith in ap (λ i. getD (inOne m next .syndromes) i 0) n ∙ z)))
-      (inl (refl, refl)) q handing
+  word-through t v word least output₀ {next} hm ht ho e counted few q handing =
+      let l : next % 2 ^ (m + 1) < 2 ^ 32 = lt-of-lt-of-le (mod-lt next (pow-pos (m + 1))) (pow-mono {i = m + 1} {j = 32} (omega (arith, G .m-most))) in
+      word-turn t v word output₀ hm ht ho e (sym (few-held (next % 2 ^ (m + 1)) least l counted few)) (inl (refl, refl)) q handing
 
 -- ---- a card whose parity streams are one
 pub of-one-parity : (g counts checks sums : List ℕ) (k m : ℕ) (frames output : List ℕ) {p : ℕ} {output' : List ℕ} → p ≡ 1 → HasSums g k p (2 ^ k) sums

@@ -63,6 +63,10 @@ pub record Corrected (sums counts checks syndromes : List ℕ) (k p : ℕ) (afte
 abbrev pub NoneFrom : ℕ → List ℕ → Type 0
 NoneFrom p registers = (j : ℕ) → p ≤ j → getD registers j 0 ≡ 0
 
+-- each of the k streams has so many checks
+abbrev pub AtLeast : List ℕ → ℕ → ℕ → Type 0
+AtLeast counts k least = (i : ℕ) → i < k → least ≤ getD counts i 0
+
 -- streams 1 to k of a frame, the errors e added
 unfoldable pub correctedBy : ℕ → ℕ → ℕ → ℕ
 correctedBy f k e = bitXor (f % 2 ^ k) e

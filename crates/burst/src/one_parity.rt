@@ -5,8 +5,10 @@ ghost use mathlib.Core.Path.{_≡_};
 ghost use mathlib.Core.Logic.{_⊎_};
 ghost use Prim.Native.Nat.{ℕ, _+_, _*_, _/_, _%_, _^_, _<_, _≤_};
 ghost use lib.Bits.{bitXor};
+ghost use lib.Count.{ones};
+ghost use lib.Dec.{ltb};
 ghost use lib.ListN.{length, getD};
-ghost use Rattle.burst.specs.Registers.{inOne, putOf, HasPuts};
+ghost use Rattle.burst.specs.Registers.{AtLeast, inOne, putOf, HasPuts};
 ghost use Rattle.burst.specs.Held.{tables, Carried, HandedOut, AllHandedOut, AllHandedFrom, EveryTables};
 use crate::registers::corrected;
 
@@ -81,16 +83,42 @@ fn fill(puts: &[u64; 32], k: usize, m: usize, input: &[u8]) -> u64
     word
 }
 
+// The least number of checks that a stream has.
+fn least_checks(counts: &[usize; 4], k: usize) -> usize
+    requires { ⌜ k ≤ 4 ⌝ }
+    ensures { λ r. ⌜ AtLeast (now (counts .entry)) k r ⌝ }
+{
+    let mut least: usize = 16;
+    let mut i = 0;
+    while i < k {
+        least = bits::at_most(counts[i], least);
+        i += 1;
+    }
+    least
+}
+
+// Whether there are enough syndromes of 1 for a majority of so many checks: no syndrome is in two checks of a stream. On a clean link there are none
+// to be counted.
+fn enough(held: u32, least: usize) -> bool
+    ensures { λ r. ⌜ r ≡ ltb least (2 * ones held) ⌝ }
+{
+    if held == 0 {
+        return false;
+    }
+    least < 2 * bits::index(u32::count_ones(held))
+}
+
 // How far a loop came: the frame that it takes in next, and the word before it.
 struct Reached {
     word: u64,
     t: usize,
 }
 
-// While no frame brings a syndrome of 1 there is no vote: the frames m before are handed out as they came.
+// While too few syndromes are 1 for any majority there is no vote: the frames m before are handed out as they came.
 fn hand_through(
     before: u64,
     puts: &[u64; 32],
+    least: usize,
     k: usize,
     m: usize,
     from: usize,
@@ -100,13 +128,13 @@ fn hand_through(
     requires { ⌜ (k ≤ 4) × (m ≤ 31) × (m ≤ from) × (from ≤ length (now input)) ⌝ }
     requires { ⌜ length (now input) ≤ length (now output) + m ⌝ }
     ensures { λ r. ⌜ (from ≤ r .t) × (r .t ≤ length (now (input .entry))) ⌝ }
-    ensures { λ r. ⌜ EveryTables (now (puts .entry)) k m (λ T. HandedOut T (now (input .entry)) from (r .t) (inOne m before) (inOne m (r .word)) (now (output .entry)) (now (output .exit))) ⌝ }
+    ensures { λ r. ⌜ EveryTables (now (puts .entry)) k m (λ T. AtLeast (T .counts) k least → HandedOut T (now (input .entry)) from (r .t) (inOne m before) (inOne m (r .word)) (now (output .entry)) (now (output .exit))) ⌝ }
 {
     let mut word = before;
     let mut t = from;
     while t < input.len() {
         let next = taken_in(word, puts, k, input[t]);
-        if syndromes(next, m) != 0 {
+        if enough(syndromes(next, m), least) {
             return Reached { word, t };
         }
         let u = t - m;
@@ -148,6 +176,7 @@ fn hand_corrected<'a>(
 fn hand_out<'a>(
     filled: u64,
     puts: &[u64; 32],
+    least: usize,
     sums: &[u32; 128],
     counts: &'a [usize; 4],
     checks: &'a [u32; 512],
@@ -159,12 +188,13 @@ fn hand_out<'a>(
     requires { ⌜ (k ≤ 4) × (m ≤ 31) ⌝ }
     requires { ⌜ (m ≤ length (now input)) × (length (now input) ≤ length (now output) + m) ⌝ }
     ensures { λ r. ⌜ (HasPuts (now (sums .entry)) k m (2 ^ (k + 1)) (now (puts .entry))
+        → AtLeast (now (counts .entry)) k least
         → AllHandedFrom (inOne m filled) (tables (now (sums .entry)) (now (counts .entry)) (now (checks .entry)) k 1 m) (now (input .entry)) (now (output .entry)) (now (output .exit))) ⌝ }
 {
     let mut word = filled;
     let mut t = m;
     while t < input.len() {
-        let reached = hand_through(word, puts, k, m, t, input, output);
+        let reached = hand_through(word, puts, least, k, m, t, input, output);
         word = reached.word;
         t = reached.t;
         if t == input.len() {
@@ -190,6 +220,18 @@ pub(crate) fn receive<'a>(
     ensures { λ r. ⌜ AllHandedOut (tables (now (sums .entry)) (now (counts .entry)) (now (checks .entry)) k 1 m) (now (input .entry)) (now (output .entry)) (now (output .exit)) ⌝ }
 {
     let puts = puts(sums, k, m);
+    let least = least_checks(counts, k);
     let filled = fill(&puts, k, m, input);
-    hand_out(filled, &puts, sums, counts, checks, k, m, input, output);
+    hand_out(
+        filled,
+        &puts,
+        least,
+        sums,
+        counts,
+        checks,
+        k,
+        m,
+        input,
+        output,
+    );
 }

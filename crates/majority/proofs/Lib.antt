@@ -11,3 +11,4 @@ pub mod SecondCircuit
 pub mod Figures
 -- the vote on registers
 pub mod Voting
+pub mod FewOnes

@@ -4,22 +4,22 @@ use mathlib.Core.Path.{_≡_, _∙_}
 use native.Mathlib.Nat.{le-antisymm}
 use native.Mathlib.Omega.{arith}
 use lib.ListN.{length}
-use Rattle.burst.specs.Registers.{inOne, HasPuts}
+use Rattle.burst.specs.Registers.{AtLeast, inOne, HasPuts}
 use Rattle.burst.specs.Held.{tables, HandedOut}
 use Rattle.burst.proofs.HandingOut.{hand-on, all-from}
 use Rattle.burst.proofs.one_parity.hand_out.Statement.{statement}
 use Rattle.burst.proofs.one_parity.hand_out.Tie as tie
 
 abbrev Inv-loop : tie.InvT-loop
-Inv-loop filled puts sums counts checks k m input output₀ word₀ t₀ output word t =
+Inv-loop filled puts least sums counts checks k m input output₀ word₀ t₀ output word t =
     (m ≤ t) × (t ≤ length input) × (length output ≡ length output₀)
-    × (HasPuts sums k m (2 ^ (k + 1)) puts → HandedOut (tables sums counts checks k 1 m) input m t (inOne m filled) (inOne m word) output₀ output)
+    × (HasPuts sums k m (2 ^ (k + 1)) puts → AtLeast counts k least → HandedOut (tables sums counts checks k 1 m) input m t (inOne m filled) (inOne m word) output₀ output)
 
 abbrev μ-loop : tie.MeasureT-loop
-μ-loop filled puts sums counts checks k m input output₀ word₀ t₀ output word t = length input - t
+μ-loop filled puts least sums counts checks k m input output₀ word₀ t₀ output word t = length input - t
 
 loop-holds : tie.Need-loop-holds Inv-loop μ-loop
-loop-holds c = (omega arith, omega arith, omega arith, λ P g e number G o same handing. handing)
+loop-holds c = (omega arith, omega arith, omega arith, λ P counted g e number G o same handing. handing)
 
 hand-through-requires : tie.Need-hand-through-requires Inv-loop μ-loop
 hand-through-requires c κs = omega arith
@@ -33,10 +33,10 @@ returns c =
     let a = c .before .before .before .before .before .before .before .before .before .args in
     let through = c .before .before .before .hand-through in
     let T = tables (a .sums .now) (a .counts .now) (a .checks .now) (a .k) 1 (a .m) in
-    λ P.
+    λ P counted.
     all-from T (a .input .now)
     (rw (c .if1 .taken) at (hand-on T (a .input .now) (a .m) (l .t) (through .result .t) (inOne (a .m) (a .filled)) (inOne (a .m) (l .word)) (inOne (a .m) (through .result .word)) (a .output .now) (l .output) _ (l .inv .2)
-    (l .inv .3 P) (through .ensures .1 (a .sums .now) (a .counts .now) (a .checks .now) P)))
+    (l .inv .3 P counted) (through .ensures .1 (a .sums .now) (a .counts .now) (a .checks .now) P counted)))
 
 hand-corrected-requires : tie.Need-hand-corrected-requires Inv-loop μ-loop
 hand-corrected-requires c κs = omega arith
@@ -57,10 +57,10 @@ loop-again c =
       omega arith,
       omega arith,
       omega arith,
-      λ P.
+      λ P counted.
           hand-on T (a .input .now) (a .m) (through .result .t) (through .result .t + 1) (inOne (a .m) (a .filled)) (inOne (a .m) (through .result .word)) (inOne (a .m) (corrected .result)) (a .output .now) _ _ (omega arith)
           (hand-on T (a .input .now) (a .m) (l .t) (through .result .t) (inOne (a .m) (a .filled)) (inOne (a .m) (l .word)) (inOne (a .m) (through .result .word)) (a .output .now) (l .output) _ (l .inv .2)
-          (l .inv .3 P) (through .ensures .1 (a .sums .now) (a .counts .now) (a .checks .now) P))
+          (l .inv .3 P counted) (through .ensures .1 (a .sums .now) (a .counts .now) (a .checks .now) P counted))
           (corrected .ensures P),
     )
 
@@ -72,7 +72,7 @@ returns-2 c =
     let l = c .before .loop in
     let a = c .before .before .before .before .args in
     let e : l .t ≡ length (a .input .now) = le-antisymm (l .inv .1) (c .loop-test .left) in
-    λ P. all-from (tables (a .sums .now) (a .counts .now) (a .checks .now) (a .k) 1 (a .m)) (a .input .now) (rw e at (l .inv .3 P))
+    λ P counted. all-from (tables (a .sums .now) (a .counts .now) (a .checks .now) (a .k) 1 (a .m)) (a .input .now) (rw e at (l .inv .3 P counted))
 
 pub hand-out-spec : {M : Type 1} → statement M
 hand-out-spec =

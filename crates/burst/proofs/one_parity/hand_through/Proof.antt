@@ -1,24 +1,27 @@
 -- The loop has handed out the frames m before those that it passed, and none of these brought a syndrome of 1.
-use Prim.Native.Nat.{_-_, _≤_}
-use mathlib.Core.Path.{_≡_, sym, _∙_}
+use Prim.Native.Nat.{_-_, _*_, _≤_}
+use mathlib.Core.Path.{_≡_, sym, ap, _∙_}
 use native.Mathlib.Omega.{arith}
+use lib.Count.{ones}
+use lib.Dec.{ltb}
 use lib.ListN.{length, getD, length-set}
-use Rattle.burst.specs.Registers.{inOne}
+use borrow.Author.Tests.{ltb-false}
+use Rattle.burst.specs.Registers.{AtLeast, inOne}
 use Rattle.burst.specs.Held.{HandedOut, EveryTables}
 use Rattle.burst.proofs.OneParity.{put-in, word-through}
 use Rattle.burst.proofs.one_parity.hand_through.Statement.{statement}
 use Rattle.burst.proofs.one_parity.hand_through.Tie as tie
 
 abbrev Inv-loop : tie.InvT-loop
-Inv-loop before puts k m from input output₀ word₀ t₀ output word t =
+Inv-loop before puts least k m from input output₀ word₀ t₀ output word t =
     (from ≤ t) × (t ≤ length input) × (length output ≡ length output₀)
-    × EveryTables puts k m (λ T. HandedOut T input from t (inOne m before) (inOne m word) output₀ output)
+    × EveryTables puts k m (λ T. AtLeast (T .counts) k least → HandedOut T input from t (inOne m before) (inOne m word) output₀ output)
 
 abbrev μ-loop : tie.MeasureT-loop
-μ-loop before puts k m from input output₀ word₀ t₀ output word t = length input - t
+μ-loop before puts least k m from input output₀ word₀ t₀ output word t = length input - t
 
 loop-holds : tie.Need-loop-holds Inv-loop μ-loop
-loop-holds c = (omega arith, omega arith, omega arith, λ sums counts checks P g e number G o same handing. handing)
+loop-holds c = (omega arith, omega arith, omega arith, λ sums counts checks P counted g e number G o same handing. handing)
 
 shared-slice-read-taken-in : tie.Need-shared-slice-read-taken-in Inv-loop μ-loop
 shared-slice-read-taken-in c = omega arith
@@ -30,10 +33,13 @@ syndromes-requires : tie.Need-syndromes-requires Inv-loop μ-loop
 syndromes-requires c κs = omega arith
 
 same-length : tie.Need-same-length Inv-loop μ-loop
-same-length c = c .before .before .before .before .before .loop .inv .2
+same-length c = c .before .before .before .before .before .before .loop .inv .2
 
 returns : tie.Need-returns Inv-loop μ-loop
-returns c = let l = c .before .before .before .before .before .loop in ((l .inv .0, l .inv .1), l .inv .3)
+returns c = let l = c .before .before .before .before .before .before .loop in ((l .inv .0, l .inv .1), l .inv .3)
+
+enough-requires : tie.Need-enough-requires Inv-loop μ-loop
+enough-requires c κs = tt
 
 sub-u : tie.Need-sub-u Inv-loop μ-loop
 sub-u c = omega arith
@@ -55,16 +61,17 @@ loop-less c = omega arith
 
 loop-again : tie.Need-loop-again Inv-loop μ-loop
 loop-again c =
-    let l = c .before .before .before .before .before .before .before .loop in
-    let a = c .before .before .before .before .before .before .before .before .before .before .args in
+    let l = c .before .before .before .before .before .before .before .before .loop in
+    let a = c .before .before .before .before .before .before .before .before .before .before .before .args in
     let f = getD (a .input .now) (l .t) 0 in
-    let none = sym (c .before .before .before .syndromes .ensures) ∙ c .before .before .if1 .left in (
+    let held = c .before .before .before .before .syndromes .ensures in
+    let few = ltb-false (a .least) _ (sym (ap (λ n. ltb (a .least) (2 * ones n)) held) ∙ sym (c .before .before .before .enough .ensures) ∙ c .before .before .if1 .left) in (
       omega arith,
       omega arith,
       length-set (l .output) (l .t - a .m) (c .corrected .result) ∙ l .inv .2,
-      λ sums counts checks P g e number G o same handing.
-          word-through number g counts checks (a .k) (a .m) G sums e (a .input .now) (l .t) (c .corrected .result) (l .word) o (omega arith) (omega arith) (omega arith)
-          (put-in sums (a .puts .now) (a .k) (a .m) P (l .word) f (c .before .before .before .before .taken-in .ensures)) none (c .corrected .ensures) (l .inv .3 sums counts checks P g e number G o same handing),
+      λ sums counts checks P counted g e number G o same handing.
+          word-through number g counts checks (a .k) (a .m) G sums e (a .input .now) (l .t) (c .corrected .result) (l .word) (a .least) o (omega arith) (omega arith) (omega arith)
+          (put-in sums (a .puts .now) (a .k) (a .m) P (l .word) f (c .before .before .before .before .before .taken-in .ensures)) counted few (c .corrected .ensures) (l .inv .3 sums counts checks P counted g e number G o same handing),
     )
 
 same-length-2 : tie.Need-same-length-2 Inv-loop μ-loop
@@ -83,6 +90,7 @@ hand-through-spec =
     shared-slice-read-taken-in
     taken-in-requires
     syndromes-requires
+    enough-requires
     same-length
     returns
     sub-u

@@ -1,0 +1,58 @@
+use Prim.Native.Nat.{_-_, _≤_}
+use native.Mathlib.Omega.{arith}
+use lib.ListN.{getD}
+use borrow.Author.Count.{below-more}
+use Rattle.burst.specs.Registers.{AtLeast}
+use Rattle.burst.proofs.one_parity.least_checks.Statement.{statement}
+use Rattle.burst.proofs.one_parity.least_checks.Tie as tie
+
+abbrev Inv-loop : tie.InvT-loop
+Inv-loop counts k least₀ i₀ least i = (i ≤ k) × AtLeast counts i least
+
+abbrev μ-loop : tie.MeasureT-loop
+μ-loop counts k least₀ i₀ least i = k - i
+
+loop-holds : tie.Need-loop-holds Inv-loop μ-loop
+loop-holds c = (omega arith, λ i l. absurd (omega arith))
+
+mul-at-most : tie.Need-mul-at-most Inv-loop μ-loop
+mul-at-most c = omega arith
+
+element-copy-out-at-most : tie.Need-element-copy-out-at-most Inv-loop μ-loop
+element-copy-out-at-most c = omega arith
+
+at-most-requires : tie.Need-at-most-requires Inv-loop μ-loop
+at-most-requires c κs = tt
+
+add-i : tie.Need-add-i Inv-loop μ-loop
+add-i c = omega arith
+
+loop-less : tie.Need-loop-less Inv-loop μ-loop
+loop-less c = omega arith
+
+loop-again : tie.Need-loop-again Inv-loop μ-loop
+loop-again c =
+    let l = c .before .before .before .loop in
+    let a = c .before .before .before .before .args in
+    let least = c .at-most .ensures in (
+      omega arith,
+      below-more (λ i. c .at-most .result ≤ getD (a .counts .now) i 0) (l .i) (λ i q. omega (arith, least, l .inv .1 i q)) (omega (arith, least)),
+    )
+
+returns : tie.Need-returns Inv-loop μ-loop
+returns c = λ i l. c .before .loop .inv .1 i (omega arith)
+
+pub least-checks-spec : {M : Type 1} → statement M
+least-checks-spec =
+    tie.close
+    (tie.spec
+    Inv-loop
+    μ-loop
+    loop-holds
+    mul-at-most
+    element-copy-out-at-most
+    at-most-requires
+    add-i
+    loop-less
+    loop-again
+    returns)
