@@ -2,4 +2,5 @@ pub mod Rule
 pub mod SecondCircuit
 pub mod AsSent
 pub mod Voting
+pub mod Ballot
 pub mod Edges
