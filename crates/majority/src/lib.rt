@@ -8,6 +8,8 @@ ghost use lib.Bits.{bitAnd};
 ghost use lib.Dec.{ltb};
 ghost use Rattle.majority.specs.Voting.{checkBy, votesBy, streamVotesBy, decideBy};
 
+pub mod ballot;
+
 // The digits that are 1 in both.
 fn common(x: u32, y: u32) -> u32
     ensures { λ r. ⌜ r ≡ bitAnd x y ⌝ }

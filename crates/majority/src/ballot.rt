@@ -1,0 +1,121 @@
+// The vote of a card with one parity stream, whose syndromes are one word. Most checks are a single syndrome, and how many of those are 1 is one count of
+// ones: so the checks are sorted once, and a vote works out the parities of the others alone.
+ghost use mathlib.Core.Path.{_≡_};
+ghost use mathlib.Core.Bool.{true};
+ghost use Prim.Native.Nat.{_+_, _*_, _%_, _<_, _≤_};
+ghost use lib.ListN.{length};
+ghost use Rattle.bits.specs.Digits.{dot};
+ghost use Rattle.majority.specs.Ballot.{Joins, parities, decideSorted, Sorted, SortedStream};
+use crate::more_than_half;
+
+// The checks of each information stream on one syndrome register, sorted.
+pub struct Ballot {
+    pub alone: [u32; 4], // the syndromes that are a check of stream i by themselves
+    pub several: [u32; 64], // the other checks, stream i's r-th at i * 16 + r
+    pub left: [usize; 4], // how many of the other checks stream i has
+}
+
+// The same of one stream, its other checks in a table that is lent.
+struct Stream {
+    alone: u32,
+    left: usize,
+}
+
+// Whether a check may be added to a union: it is of one syndrome, which the union does not have. One of none may be added as well.
+fn joins(mask: u32, alone: u32) -> bool
+    ensures { λ r. ⌜ (r ≡ true → Joins mask alone) ⌝ }
+{
+    if mask & alone == 0 {
+        u32::count_ones(mask) < 2
+    } else {
+        false
+    }
+}
+
+// The checks of stream i, sorted. A check whose syndrome the union has already counts a second time, so it goes to the others.
+fn sorted_stream(checks: &[u32; 512], i: usize, count: usize, several: &mut [u32; 64]) -> Stream
+    requires { ⌜ (i < 4) × (count ≤ 16) × (length (now several) ≡ 64) ⌝ }
+    ensures { λ r. ⌜ SortedStream (now (checks .entry)) i count (now (several .entry)) (now (several .exit)) (r .alone) (r .left) ⌝ }
+{
+    let mut alone: u32 = 0;
+    let mut left = 0;
+    let mut q = 0;
+    while q < count {
+        let mask = checks[i * 128 + q * 8];
+        if joins(mask, alone) {
+            alone = alone | mask;
+        } else {
+            several[i * 16 + left] = mask;
+            left += 1;
+        }
+        q += 1;
+    }
+    Stream { alone, left }
+}
+
+// The checks sorted. More streams or checks than the tables have are not looked at.
+pub fn sorted<'a>(counts: &'a [usize; 4], checks: &'a [u32; 512], k: usize) -> Ballot
+    ensures { λ r. ⌜ Sorted (now (counts .entry)) (now (checks .entry)) k (r .alone) (r .several) (r .left) ⌝ }
+{
+    let streams = bits::at_most(k, 4);
+    let mut alone = [0u32; 4];
+    let mut several = [0u32; 64];
+    let mut left = [0usize; 4];
+    let mut i = 0;
+    while i < streams {
+        let count = bits::at_most(counts[i], 16);
+        let stream = sorted_stream(checks, i, count, &mut several);
+        alone[i] = stream.alone;
+        left[i] = stream.left;
+        i += 1;
+    }
+    Ballot {
+        alone,
+        several,
+        left,
+    }
+}
+
+// 1 if an odd number of the mask's syndromes are 1.
+fn parity(mask: u32, word: u32) -> u32
+    ensures { λ r. ⌜ r ≡ dot mask word % 2 ⌝ }
+{
+    u32::count_ones(mask & word) % 2
+}
+
+// How many of the sorted checks of stream i are 1.
+fn sorted_votes(alone: u32, several: &[u32; 64], i: usize, left: usize, word: u32) -> u32
+    requires { ⌜ (i < 4) × (left ≤ 16) ⌝ }
+    ensures { λ r. ⌜ r ≡ dot alone word + parities (now (several .entry)) (i * 16) left word ⌝ }
+{
+    let mut ones = u32::count_ones(alone & word);
+    let mut r = 0;
+    while r < left {
+        ones = ones + parity(several[i * 16 + r], word);
+        r += 1;
+    }
+    ones
+}
+
+// The decided errors of a frame, bit i for stream i, by sorted checks on the word of its syndromes. More streams or checks than the tables have are
+// not looked at.
+pub fn decide_sorted<'a>(
+    counts: &'a [usize; 4],
+    alone: &'a [u32; 4],
+    several: &'a [u32; 64],
+    left: &'a [usize; 4],
+    word: u32,
+    k: usize,
+) -> u32
+    ensures { λ r. ⌜ r ≡ decideSorted (now (counts .entry)) (now (alone .entry)) (now (several .entry)) (now (left .entry)) word k ⌝ }
+{
+    let streams = bits::at_most(k, 4);
+    let mut errors: u32 = 0;
+    let mut i = 0;
+    while i < streams {
+        let votes = sorted_votes(alone[i], several, i, bits::at_most(left[i], 16), word);
+        errors = errors + (more_than_half(bits::at_most(counts[i], 16), votes) << i);
+        i += 1;
+    }
+    errors
+}
