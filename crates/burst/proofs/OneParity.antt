@@ -1,6 +1,6 @@
 -- The two registers of one parity stream in one word: a frame put into the word, and errors taken out of it, do to the two what they do to registers
 -- in arrays.
-use Prim.Native.Nat.{ℕ, zero, suc, _-_, _+_, _*_, _/_, _%_, _^_, _≤_, _<_}
+use Prim.Native.Nat.{ℕ, zero, suc, _-_, _+_, _*_, _/_, _%_, _^_, _≤_, _<_, min}
 use mathlib.Core.Path.{_≡_, refl, sym, ap, ap₂, _∙_, subst}
 use mathlib.Core.Logic.{_⊎_, inl, inr, ⊎-elim}
 use mathlib.Core.List.{List, _∷_, _++_}
@@ -10,16 +10,19 @@ use native.Mathlib.Omega.{arith}
 use lib.ListN.{length, getD, set, drop, replicate}
 use lib.Bits.{bitXor, xor-lt, block-half, xor-comm, xor-zero-r, xor-shifted, xor-block, xor-shr, xor-mod}
 use lib.Count.{ones}
+use lib.Dec.{ltb}
 use lib.Pow.{pow-pos, pow-mono, split, high, low, shl-exact, mod-mod-pow, field}
 use Rattle.bits.specs.Sums.{sumBelow, xorBelow, upTo}
 use Rattle.bits.specs.Digits.{bit, shiftUp}
-use Rattle.bits.proofs.Digits.{bit-lt, bit-zero, bit-xor, digits-lt, ones-sum}
+use Rattle.bits.proofs.Cases.{cond-le}
+use Rattle.bits.proofs.Digits.{bit-lt, bit-zero, bit-xor, digits-lt, from-digits-lt, ones-sum}
 use Rattle.bits.proofs.Words.{shift-digit}
 use Rattle.code.specs.Checks.{count}
 use Rattle.code.specs.Guarantees.{Guarantees}
 use Rattle.code.specs.declared.Card.{Card}
 use Rattle.majority.specs.Rule.{decoded}
 use Rattle.majority.specs.Voting.{decideBy}
+use Rattle.majority.specs.Ballot.{votesSorted, decideSorted}
 use Rattle.majority.proofs.Voting.{decide-lt-k}
 use Rattle.majority.proofs.FewOnes.{decide-few}
 use Rattle.burst.specs.Parts.{cardFrom, EveryCard}
@@ -166,6 +169,15 @@ within-taken : (word s m : ℕ) → s < 2 ^ (m + 1) → bitXor word s % 2 ^ (m +
 within-taken word s m l = xor-mod word s (m + 1) ∙ ap (bitXor (word % 2 ^ (m + 1))) (mod-eq-of-lt l)
 
 -- ---- one frame more under a card with one parity stream
+
+-- four streams at most are decided
+pub sorted-small : (counts alone several left : List ℕ) (word k : ℕ) {errors : ℕ} → errors ≡ decideSorted counts alone several left word k → errors < 16
+unfolding decideSorted
+sorted-small counts alone several left word k e =
+    rw e
+    (lt-of-lt-of-le (from-digits-lt (min k 4) _ (λ i l. let w = cond-le (ltb (min (getD counts i 0) 16) (2 * votesSorted alone several left i word)) 1 0 1 (omega arith) (omega arith) in omega (arith, w)))
+    (pow-mono {i = min k 4} {j = 4} (omega arith)))
+
 module _ (number : ℕ) (g counts checks : List ℕ) (k m : ℕ) (G : Guarantees (cardFrom number g counts checks k 1 m))
     (sums : List ℕ) (S : HasSums g k 1 (2 ^ k) sums) (frames : List ℕ) where
   -- the syndromes that the next word holds are those of this one without the errors, and the parity digits to come are the same

@@ -2,15 +2,19 @@
 // places 0 to m, the parity digits to come above them. A place further, the digit to come for the frame's time stands at place m, and with the frame's own
 // digits put in there it is the frame's syndrome.
 ghost use mathlib.Core.Path.{_≡_};
+ghost use mathlib.Core.List.{List};
 ghost use mathlib.Core.Logic.{_⊎_};
 ghost use Prim.Native.Nat.{ℕ, _+_, _*_, _/_, _%_, _^_, _<_, _≤_};
 ghost use lib.Bits.{bitXor};
 ghost use lib.Count.{ones};
 ghost use lib.Dec.{ltb};
 ghost use lib.ListN.{length, getD};
+ghost use Rattle.majority.specs.Ballot.{Sorted};
 ghost use Rattle.burst.specs.Registers.{AtLeast, inOne, putOf, HasPuts};
 ghost use Rattle.burst.specs.Held.{tables, Carried, HandedOut, AllHandedOut, AllHandedFrom, EveryTables};
 use crate::registers::corrected;
+use majority::ballot::decide_sorted;
+use majority::ballot::sorted;
 
 // A short word as a long one.
 fn long(x: u32) -> u64
@@ -151,7 +155,9 @@ fn hand_corrected<'a>(
     puts: &[u64; 32],
     sums: &[u32; 128],
     counts: &'a [usize; 4],
-    checks: &'a [u32; 512],
+    alone: &'a [u32; 4],
+    several: &'a [u32; 64],
+    left: &'a [usize; 4],
     k: usize,
     m: usize,
     t: usize,
@@ -160,13 +166,13 @@ fn hand_corrected<'a>(
 ) -> u64
     requires { ⌜ (k ≤ 4) × (m ≤ 31) × (m ≤ t) × (t < length (now input)) ⌝ }
     requires { ⌜ length (now input) ≤ length (now output) + m ⌝ }
-    ensures { λ r. ⌜ (HasPuts (now (sums .entry)) k m (2 ^ (k + 1)) (now (puts .entry))
-        → HandedOut (tables (now (sums .entry)) (now (counts .entry)) (now (checks .entry)) k 1 m) (now (input .entry)) t (t + 1) (inOne m before) (inOne m r)
+    ensures { λ r. ⌜ ((checks : List ℕ) → HasPuts (now (sums .entry)) k m (2 ^ (k + 1)) (now (puts .entry))
+        → Sorted (now (counts .entry)) checks k (now (alone .entry)) (now (several .entry)) (now (left .entry))
+        → HandedOut (tables (now (sums .entry)) (now (counts .entry)) checks k 1 m) (now (input .entry)) t (t + 1) (inOne m before) (inOne m r)
         (now (output .entry)) (now (output .exit))) ⌝ }
 {
     let word = taken_in(before, puts, k, input[t]);
-    let held = [syndromes(word, m), 0, 0, 0, 0, 0, 0, 0];
-    let errors = majority::decide(counts, checks, &held, k, 1);
+    let errors = decide_sorted(counts, alone, several, left, syndromes(word, m), k);
     let u = t - m;
     output[u] = corrected(input[u], k, errors);
     fed_back(word, sums, errors)
@@ -179,7 +185,9 @@ fn hand_out<'a>(
     least: usize,
     sums: &[u32; 128],
     counts: &'a [usize; 4],
-    checks: &'a [u32; 512],
+    alone: &'a [u32; 4],
+    several: &'a [u32; 64],
+    left: &'a [usize; 4],
     k: usize,
     m: usize,
     input: &[u8],
@@ -187,9 +195,10 @@ fn hand_out<'a>(
 )
     requires { ⌜ (k ≤ 4) × (m ≤ 31) ⌝ }
     requires { ⌜ (m ≤ length (now input)) × (length (now input) ≤ length (now output) + m) ⌝ }
-    ensures { λ r. ⌜ (HasPuts (now (sums .entry)) k m (2 ^ (k + 1)) (now (puts .entry))
+    ensures { λ r. ⌜ ((checks : List ℕ) → HasPuts (now (sums .entry)) k m (2 ^ (k + 1)) (now (puts .entry))
+        → Sorted (now (counts .entry)) checks k (now (alone .entry)) (now (several .entry)) (now (left .entry))
         → AtLeast (now (counts .entry)) k least
-        → AllHandedFrom (inOne m filled) (tables (now (sums .entry)) (now (counts .entry)) (now (checks .entry)) k 1 m) (now (input .entry)) (now (output .entry)) (now (output .exit))) ⌝ }
+        → AllHandedFrom (inOne m filled) (tables (now (sums .entry)) (now (counts .entry)) checks k 1 m) (now (input .entry)) (now (output .entry)) (now (output .exit))) ⌝ }
 {
     let mut word = filled;
     let mut t = m;
@@ -200,7 +209,20 @@ fn hand_out<'a>(
         if t == input.len() {
             return;
         }
-        word = hand_corrected(word, puts, sums, counts, checks, k, m, t, input, output);
+        word = hand_corrected(
+            word,
+            puts,
+            sums,
+            counts,
+            alone,
+            several,
+            left,
+            k,
+            m,
+            t,
+            input,
+            output,
+        );
         t += 1;
     }
 }
@@ -221,6 +243,7 @@ pub(crate) fn receive<'a>(
 {
     let puts = puts(sums, k, m);
     let least = least_checks(counts, k);
+    let ballot = sorted(counts, checks, k);
     let filled = fill(&puts, k, m, input);
     hand_out(
         filled,
@@ -228,7 +251,9 @@ pub(crate) fn receive<'a>(
         least,
         sums,
         counts,
-        checks,
+        &ballot.alone,
+        &ballot.several,
+        &ballot.left,
         k,
         m,
         input,

@@ -3,8 +3,8 @@ use mathlib.Core.List.{_∷_}
 use native.Mathlib.Omega.{arith}
 use lib.ListN.{getD, replicate}
 use Rattle.majority.specs.Voting.{decideBy}
-use Rattle.burst.proofs.Deciding.{decided-small}
-use Rattle.burst.proofs.OneParity.{put-in, word-turn}
+use Rattle.majority.proofs.Sorting.{sorted-decides}
+use Rattle.burst.proofs.OneParity.{put-in, sorted-small, word-turn}
 use borrow.Author.Needs.{needs}
 use Rattle.burst.proofs.one_parity.hand_corrected.Statement.{statement}
 use Rattle.burst.proofs.one_parity.hand_corrected.Tie as tie
@@ -18,8 +18,8 @@ taken-in-requires c κs = search needs
 syndromes-requires : tie.Need-syndromes-requires
 syndromes-requires c κs = search needs
 
-decide-requires : tie.Need-decide-requires
-decide-requires c κs = search needs
+decide-sorted-requires : tie.Need-decide-sorted-requires
+decide-sorted-requires c κs = search needs
 
 sub-u : tie.Need-sub-u
 sub-u c = search needs
@@ -28,26 +28,32 @@ shared-slice-read-corrected : tie.Need-shared-slice-read-corrected
 shared-slice-read-corrected c = search needs
 
 corrected-requires : tie.Need-corrected-requires
-corrected-requires c κs = (omega arith, decided-small _ _ _ _ _ (c .before .decide .ensures))
+corrected-requires c κs = (omega arith, sorted-small _ _ _ _ _ _ (c .before .decide-sorted .ensures))
 
 slice-write-output : tie.Need-slice-write-output
 slice-write-output c = search needs
 
 fed-back-requires : tie.Need-fed-back-requires
-fed-back-requires c κs = decided-small _ _ _ _ _ (c .before .before .decide .ensures)
+fed-back-requires c κs = sorted-small _ _ _ _ _ _ (c .before .before .decide-sorted .ensures)
 
 same-length : tie.Need-same-length
 same-length c = search needs
 
 returns : tie.Need-returns
 returns c =
-    let a = c .before .before .before .before .before .before .before .before .before .before .args in
+    let a = c .before .before .before .before .before .before .before .before .before .args in
+    let pre = c .before .before .before .before .before .before .before .before .before .pre in
     let f = getD (a .input .now) (a .t) 0 in
-    let word = c .before .before .before .before .before .before .taken-in in
-    let decide = c .before .before .before .decide in
-    λ P g e number G o same handing.
-    word-turn number g (a .counts .now) (a .checks .now) (a .k) (a .m) G (a .sums .now) e (a .input .now) (a .t) (c .before .corrected .result) (a .before) o (omega arith) (omega arith) (omega arith)
-    (put-in (a .sums .now) (a .puts .now) (a .k) (a .m) P (a .before) f (word .ensures)) (decide .ensures ∙ ap (λ s. decideBy (a .counts .now) (a .checks .now) (s ∷ replicate 7 0) (a .k) 1) (c .before .before .before .before .before .syndromes .ensures)) (c .fed-back .ensures) (c .before .corrected .ensures) handing
+    let held = c .before .before .before .before .syndromes in
+    let word = c .before .before .before .before .before .taken-in in
+    let decided = c .before .before .before .decide-sorted in
+    λ checks P sorted g e number G o same handing.
+    word-turn number g (a .counts .now) checks (a .k) (a .m) G (a .sums .now) e (a .input .now) (a .t) (c .before .corrected .result) (a .before) o (pre .0 .2) (pre .0 .3) (omega (arith, pre .1, same))
+    (put-in (a .sums .now) (a .puts .now) (a .k) (a .m) P (a .before) f (word .ensures))
+    (decided .ensures
+    ∙ sorted-decides (a .counts .now) checks (a .alone .now) (a .several .now) (a .left .now) (held .result) (a .k) sorted
+    ∙ ap (λ s. decideBy (a .counts .now) checks (s ∷ replicate 7 0) (a .k) 1) (held .ensures))
+    (c .fed-back .ensures) (c .before .corrected .ensures) handing
 
 pub hand-corrected-spec : {M : Type 1} → statement M
 hand-corrected-spec =
@@ -56,7 +62,7 @@ hand-corrected-spec =
     shared-slice-read-taken-in
     taken-in-requires
     syndromes-requires
-    decide-requires
+    decide-sorted-requires
     sub-u
     shared-slice-read-corrected
     corrected-requires
