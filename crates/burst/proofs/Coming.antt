@@ -1,16 +1,20 @@
--- The parity to come: what one frame more adds to it, and that it is the code's parity when its time has come.
-use Prim.Native.Nat.{ℕ, suc, _+_, _*_, _%_, _<_}
+-- The parity to come: what one frame more adds to it, that it is the code's parity when its time has come, and how a register follows it.
+use Prim.Native.Nat.{ℕ, suc, _+_, _*_, _/_, _%_, _^_, _<_}
 use mathlib.Core.Path.{_≡_, sym, ap, ap₂, _∙_}
 use mathlib.Core.List.{List}
-use native.Mathlib.Nat.{add-suc, suc-add, zero-add, add-zero, mod-add-mod}
+use native.Mathlib.Nat.{add-suc, suc-add, zero-add, add-zero, mod-add-mod, add-mod-mod}
 use native.Mathlib.Omega.{arith}
+use lib.ListN.{getD}
+use lib.Bits.{bitXor}
 use Rattle.bits.specs.Sums.{sumBelow, back}
-use Rattle.bits.proofs.Sums.{sum-cong, sum-add, sum-none, sum-first, sum-cut}
+use Rattle.bits.specs.Digits.{bit}
+use Rattle.bits.proofs.Sums.{sum-same, sum-cong, sum-add, sum-none, sum-first, sum-cut}
 use Rattle.bits.proofs.Back.{back-in, back-out, back-suc}
-use Rattle.bits.proofs.Digits.{bit-high}
+use Rattle.bits.proofs.Digits.{bit-lt, bit-zero, bit-suc, bit-mod, bit-high, bit-xor, bit-masks}
 use Rattle.code.specs.Code.{generator, digit, parityAt}
 use Rattle.code.specs.Guarantees.{Guarantees}
 use Rattle.code.specs.declared.Card.{Card}
+use Rattle.burst.specs.Registers.{generatorSum}
 use Rattle.burst.specs.Held.{comingAt}
 
 -- the part of parity digit j at t + a that the information digits up to time t give
@@ -64,3 +68,32 @@ pub coming-later : (c : Card) (frames : List ℕ) (t j a : ℕ) → comingWith c
 unfolding comingWith comingAt
 coming-later c frames t j a =
     ap (λ x. x % 2) (sum-cong (c .k) (λ i. sum-cong (suc (c .m)) (λ b. ap (λ n. generator c i j (suc a + b) * n) (sym (back-suc (digit frames i) t b)))))
+
+-- the digits of a sum of generators
+pub sum-bit : (c : Card) (x j a : ℕ) → bit (generatorSum (c .generators) (c .k) x j) a ≡ sumBelow (c .k) (λ i. generator c i j a * bit x i) % 2
+unfolding generatorSum generator
+sum-bit c x j a = bit-masks (c .k) (λ i. getD (c .generators) (i * 8 + j) 0) (bit x) (bit-lt x) a
+
+-- ---- a register of the parity to come on stream j, before the frame f of time t, and the sum of the generators of f
+module _ (c : Card) (G : Guarantees c) (frames : List ℕ) (t f j register sum : ℕ) (hf : f ≡ getD frames t 0)
+    (hs : sum ≡ generatorSum (c .generators) (c .k) (f % 2 ^ c .k) j) (B : (a : ℕ) → bit register a ≡ comingAt c frames t j a) where
+  -- the register with the frame
+  pub register-with : (a : ℕ) → bit (bitXor register sum) a ≡ comingWith c frames t j a
+  unfolding digit
+  register-with a =
+      bit-xor register sum a
+      ∙ ap₂ (λ x y. (x + y) % 2) (B a)
+      (ap (λ y. bit y a) hs
+      ∙ sum-bit c (f % 2 ^ c .k) j a
+      ∙ ap (λ y. y % 2)
+      (sum-same (c .k) _ (λ i. generator c i j a * digit frames i t) (λ i li. ap (λ y. generator c i j a * y) (bit-mod f (c .k) i li ∙ ap (λ y. bit y i) hf))))
+      ∙ add-mod-mod _ _ 2
+      ∙ coming-with c G frames t j a
+
+  -- the code's parity at t is its lowest digit
+  pub register-parity : bitXor register sum % 2 ≡ parityAt c frames j t
+  register-parity = sym (bit-zero _) ∙ register-with 0 ∙ coming-now c frames t j
+
+  -- and a place further it stands before the next frame
+  pub register-next : (a : ℕ) → bit (bitXor register sum / 2) a ≡ comingAt c frames (suc t) j a
+  register-next a = sym (bit-suc _ a) ∙ register-with (suc a) ∙ coming-later c frames t j a

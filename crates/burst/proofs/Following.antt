@@ -4,7 +4,7 @@ use mathlib.Core.Path.{_≡_, sym, ap, ap₂, _∙_}
 use mathlib.Core.Bool.{cond}
 use mathlib.Core.Logic.{⊎-elim}
 use mathlib.Core.List.{List}
-use native.Mathlib.Nat.{mod-lt, add-mod-mod, add-comm, eq-or-lt-of-le}
+use native.Mathlib.Nat.{mod-lt, add-comm, eq-or-lt-of-le}
 use native.Mathlib.Omega.{arith}
 use lib.ListN.{getD}
 use lib.Bits.{bitXor}
@@ -13,11 +13,10 @@ use lib.Pow.{pow-pos}
 use borrow.Author.Tests.{lt-ltb, le-ltb, le-leb, lt-leb}
 use Rattle.bits.specs.Sums.{sumBelow}
 use Rattle.bits.specs.Digits.{bit, shiftUp}
-use Rattle.bits.proofs.Sums.{sum-same}
 use Rattle.bits.proofs.Lists.{part-at}
 use Rattle.bits.proofs.Back.{back-in, back-out}
 use Rattle.bits.proofs.Cases.{le-or-lt}
-use Rattle.bits.proofs.Digits.{bit-lt, bit-zero, bit-suc, bit-shift, bit-mod, bit-xor, bit-masks, place-same, place-other}
+use Rattle.bits.proofs.Digits.{bit-zero, bit-suc, bit-shift, bit-xor, place-same, place-other}
 use Rattle.bits.proofs.Words.{shift-digit}
 use Rattle.code.specs.Code.{generator, digit, parityAt}
 use Rattle.code.specs.Guarantees.{Guarantees}
@@ -25,15 +24,14 @@ use Rattle.code.specs.declared.Card.{Card}
 use Rattle.majority.specs.Rule.{syndrome, cleared, decided}
 use Rattle.majority.proofs.Streams.{decided-length}
 use Rattle.majority.proofs.Feedback.{syndrome-lt, cleared-lt, cleared-new}
-use Rattle.burst.specs.Registers.{Registers, generatorSum, HasSums, parityWith, comingNext, syndromesNext, TakenIn}
+use Rattle.burst.specs.Registers.{Registers, HasSums, parityWith, comingNext, syndromesNext, TakenIn}
 use Rattle.burst.specs.Held.{comingAt, syndromeHeld, Before, With}
-use Rattle.burst.proofs.Coming.{comingWith, coming-with, coming-now, coming-later}
+use Rattle.burst.proofs.Coming.{comingWith, coming-now, sum-bit, register-with, register-next}
 
 -- the digits of the table of generator sums
 pub sums-bit : (c : Card) (sums : List ℕ) → HasSums (c .generators) (c .k) (c .p) (2 ^ c .k) sums → (x j a : ℕ) → x < 2 ^ c .k → j < c .p
     → bit (getD sums (x * 8 + j) 0) a ≡ sumBelow (c .k) (λ i. generator c i j a * bit x i) % 2
-unfolding generatorSum generator
-sums-bit c sums S x j a hx hj = ap (λ y. bit y a) (S x j hx hj) ∙ bit-masks (c .k) (λ i. getD (c .generators) (i * 8 + j) 0) (bit x) (bit-lt x) a
+sums-bit c sums S x j a hx hj = ap (λ y. bit y a) (S x j hx hj) ∙ sum-bit c x j a
 
 pub held-lt : (c : Card) (frames : List ℕ) (t j a : ℕ) → syndromeHeld c frames t j a < 2
 unfolding syndromeHeld
@@ -62,19 +60,14 @@ module _ (c : Card) (G : Guarantees c) (sums : List ℕ) (S : HasSums (c .genera
     (frames : List ℕ) (t f : ℕ) (hf : f ≡ getD frames t 0) (r : Registers) (B : Before c frames t r) where
   -- the parity register j with the frame
   parity-bit : (j a : ℕ) → j < c .p → bit (parityWith sums (r .coming) (c .k) f j) a ≡ comingWith c frames t j a
-  unfolding parityWith digit
+  unfolding parityWith
   parity-bit j a hj =
-      bit-xor (getD (r .coming) j 0) (getD sums (f % 2 ^ c .k * 8 + j) 0) a
-      ∙ ap₂ (λ x y. (x + y) % 2) (B .coming-at j a hj)
-      (sums-bit c sums S (f % 2 ^ c .k) j a (mod-lt f (pow-pos (c .k))) hj
-      ∙ ap (λ y. y % 2)
-      (sum-same (c .k) _ (λ i. generator c i j a * digit frames i t) (λ i li. ap (λ y. generator c i j a * y) (bit-mod f (c .k) i li ∙ ap (λ y. bit y i) hf))))
-      ∙ add-mod-mod _ _ 2
-      ∙ coming-with c G frames t j a
+      register-with c G frames t f j (getD (r .coming) j 0) _ hf (S (f % 2 ^ c .k) j (mod-lt f (pow-pos (c .k))) hj) (λ b. B .coming-at j b hj) a
 
   coming-bit : (j a : ℕ) → j < c .p → bit (comingNext sums (r .coming) (c .k) f j) a ≡ comingAt c frames (suc t) j a
-  unfolding comingNext
-  coming-bit j a hj = sym (bit-suc _ a) ∙ parity-bit j (suc a) hj ∙ coming-later c frames t j a
+  unfolding comingNext parityWith
+  coming-bit j a hj =
+      register-next c G frames t f j (getD (r .coming) j 0) _ hf (S (f % 2 ^ c .k) j (mod-lt f (pow-pos (c .k))) hj) (λ b. B .coming-at j b hj) a
 
   -- the syndrome of the frame
   syndrome-is : (j : ℕ) → j < c .p
