@@ -8,3 +8,4 @@ pub mod Deciding
 pub mod Waiting
 pub mod HandingOut
 pub mod OneParity
+pub mod OneParitySending

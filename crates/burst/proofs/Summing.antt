@@ -1,4 +1,4 @@
--- The table of generator sums, entry by entry.
+-- The tables of generator sums, entry by entry.
 use Prim.Native.Nat.{ℕ, _+_, _*_, _%_, _^_, _≤_, _<_}
 use mathlib.Core.Path.{_≡_, _∙_}
 use mathlib.Core.List.{List}
@@ -7,7 +7,7 @@ use lib.ListN.{length, getD, set, length-set}
 use lib.Seq.{getD-set-same, getD-set-other}
 use lib.Pow.{pow-mono, shl-exact}
 use borrow.Author.Count.{below-more}
-use Rattle.burst.specs.Registers.{generatorSum, HasSums}
+use Rattle.burst.specs.Registers.{generatorSum, HasSums, HasStreamSums}
 
 -- so many x have k digits: none of this is cut
 pub size-is : (k : ℕ) → k ≤ 4 → 1 * 2 ^ k % 2 ^ 32 ≡ 2 ^ k
@@ -41,3 +41,9 @@ put-more {sums = sums} {x = x} {j = j} {v = v} P l hp hx e =
 -- all of them
 pub put-all : {g sums : List ℕ} {k p x j : ℕ} → Putting g k p x sums j → p ≤ j → HasSums g k p (x + 1) sums
 put-all {x = x} P l y b ly lb = below-more _ x (λ z lz. P .earlier z b lz lb) (P .passed b (omega arith)) y ly
+
+-- of the table of one parity stream: the sum of one x more
+pub stream-more : (g : List ℕ) (k j : ℕ) (sums : List ℕ) (x : ℕ) {v : ℕ} → HasStreamSums g k j x sums → x < length sums → v ≡ generatorSum g k x j
+    → HasStreamSums g k j (x + 1) (set sums x v)
+stream-more g k j sums x {v} S l e =
+    below-more _ x (λ y ly. getD-set-other sums x y v 0 (λ q. omega arith) ∙ S y ly) (getD-set-same sums x v 0 l ∙ e)

@@ -27,6 +27,10 @@ generatorSum g k x j = xorBelow k (λ i. getD g (i * 8 + j) 0 * bit x i)
 abbrev pub HasSums : List ℕ → ℕ → ℕ → ℕ → List ℕ → Type 0
 HasSums g k p n sums = (x j : ℕ) → x < n → j < p → getD sums (x * 8 + j) 0 ≡ generatorSum g k x j
 
+-- the table has the sums of each x below n on parity stream j, that of x at x
+abbrev pub HasStreamSums : List ℕ → ℕ → ℕ → ℕ → List ℕ → Type 0
+HasStreamSums g k j n sums = (x : ℕ) → x < n → getD sums x 0 ≡ generatorSum g k x j
+
 -- register j of the parity to come, with the information digits of frame f
 unfoldable pub parityWith : List ℕ → List ℕ → ℕ → ℕ → ℕ → ℕ
 parityWith sums coming k f j = bitXor (getD coming j 0) (getD sums (f % 2 ^ k * 8 + j) 0)

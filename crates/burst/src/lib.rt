@@ -2,6 +2,7 @@
 mod answer;
 mod one_parity;
 mod parities;
+mod one_parity_send;
 pub mod receive;
 mod registers;
 pub mod send;

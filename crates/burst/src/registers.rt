@@ -6,10 +6,10 @@ ghost use Prim.Native.Nat.{ℕ, _+_, _/_, _%_, _^_, _<_, _≤_};
 ghost use lib.ListN.{getD, length};
 ghost use lib.Bits.{bitXor};
 ghost use Rattle.bits.specs.Digits.{shiftUp};
-ghost use Rattle.burst.specs.Registers.{registers, generatorSum, HasSums, TakenIn, written, takenOut, Corrected, NoneFrom, correctedBy};
+ghost use Rattle.burst.specs.Registers.{registers, generatorSum, HasSums, HasStreamSums, TakenIn, written, takenOut, Corrected, NoneFrom, correctedBy};
 
 // Streams 1 to k of a frame.
-fn information(frame: u8, k: usize) -> u32
+pub(crate) fn information(frame: u8, k: usize) -> u32
     requires { ⌜ k ≤ 4 ⌝ }
     ensures { λ r. ⌜ (r ≡ frame % 2 ^ k) × (r < 16) ⌝ }
 {
@@ -55,6 +55,21 @@ pub(crate) fn generator_sums(generators: &[u32; 32], k: usize, p: usize) -> [u32
     let mut x: u32 = 0;
     while x < 1 << k {
         put_sums(&mut sums, generators, k, p, x);
+        x += 1;
+    }
+    sums
+}
+
+// The sum for each x of k digits on one parity stream, at x: small, and nothing to work out between a frame and its sum.
+pub(crate) fn stream_sums(generators: &[u32; 32], k: usize, j: usize) -> [u32; 16]
+    requires { ⌜ (k ≤ 4) × (j < 8) ⌝ }
+    ensures { λ r. ⌜ HasStreamSums (now (generators .entry)) k j (2 ^ k) r ⌝ }
+{
+    let mut sums = [0u32; 16];
+    let mut x: u32 = 0;
+    while x < 1 << k {
+        let at = bits::index(x);
+        sums[at] = generator_sum(generators, k, x, j);
         x += 1;
     }
     sums

@@ -9,6 +9,7 @@ ghost use Rattle.outcomes.specs.Sending.{sendUnder, sendOf};
 ghost use Rattle.burst.specs.Parts.{EveryCode};
 use crate::answer::counted;
 use crate::answer::refused;
+use crate::one_parity_send;
 use card::CardRule;
 use card::Refusal;
 use card::Verdict;
@@ -25,8 +26,8 @@ fn information(input: &[u8], at: usize) -> u32
     }
 }
 
-// The frames that the code with these generators sends for the input, tail included, into the front of the output.
-fn send_frames(
+// The frames that the code sends, for parity streams of every number: by the history of the information digits.
+fn send_by_history(
     generators: &[u32; 32],
     k: usize,
     p: usize,
@@ -49,6 +50,26 @@ fn send_frames(
     }
 }
 
+// The frames that the code with these generators sends for the input, tail included, into the front of the output.
+fn send_frames(
+    generators: &[u32; 32],
+    k: usize,
+    p: usize,
+    m: usize,
+    input: &[u8],
+    output: &mut [u8],
+)
+    requires { ⌜ (k ≤ 4) × (length (now input) + m ≤ length (now output)) ⌝ }
+    ensures { λ _. ⌜ EveryCode (now (generators .entry)) k p m
+        (λ c. now (output .exit) ≡ sent c (now (input .entry)) ++ drop (length (now (input .entry)) + m) (now (output .entry))) ⌝ }
+{
+    if p == 1 {
+        one_parity_send::send(generators, k, m, input, output);
+    } else {
+        send_by_history(generators, k, p, m, input, output);
+    }
+}
+
 // A burst under an accepted card with these tables, which are lent: a card is large. Every frame is tested before a byte is written.
 fn send_under(
     generators: &[u32; 32],
@@ -58,7 +79,7 @@ fn send_under(
     input: &[u8],
     output: &mut [u8],
 ) -> i32
-    requires { ⌜ m ≤ 31 ⌝ }
+    requires { ⌜ (k ≤ 4) × (m ≤ 31) ⌝ }
     ensures { λ r. ⌜ EveryCode (now (generators .entry)) k p m
         (λ c. outcome r (now (output .exit)) ≡ sendUnder c (now (input .entry)) (now (output .entry))) ⌝ }
 {

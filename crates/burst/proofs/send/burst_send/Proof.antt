@@ -14,7 +14,9 @@ enum-told : tie.Need-enum-told
 enum-told c = search needs
 
 send-under-requires : tie.Need-send-under-requires
-send-under-requires c κs = c .before .before .before .before .before .read-card .ensures .guaranteed (ap outcomeOf (c .before .before .before .enum-told .given .1)) .m-most
+send-under-requires c κs =
+    let G = c .before .before .before .before .before .read-card .ensures .guaranteed (ap outcomeOf (c .before .before .before .enum-told .given .1)) in
+    (G .k-most, G .m-most)
 
 enum-known-verdict : tie.Need-enum-known-verdict
 enum-known-verdict c = search needs

@@ -1,0 +1,83 @@
+-- The loops of the burst sender of one parity stream: their start, a turn of each, and their end.
+use Prim.Native.Nat.{ℕ, _+_, _-_, _*_, _/_, _%_, _^_, _≤_, _<_}
+use mathlib.Core.Path.{_≡_, refl, sym, ap, _∙_}
+use mathlib.Core.List.{List, _++_}
+use native.Mathlib.Nat.{le-refl, le-antisymm, zero-mod}
+use native.Mathlib.Numerals.{add-one}
+use native.Mathlib.Omega.{arith}
+use lib.ListN.{length, getD, drop, set, length-append, length-drop, List·getD-eq-default}
+use lib.Bits.{bitXor, xor-zero-r}
+use borrow.Author.Tests.{lt-ltb, le-ltb}
+use Rattle.bits.specs.Sums.{xorBelow, upTo}
+use Rattle.bits.specs.Digits.{bit, fromDigits}
+use Rattle.bits.proofs.Sums.{sum-step}
+use Rattle.bits.proofs.Lists.{zeros-after, upTo-length, part-step}
+use Rattle.bits.proofs.Digits.{bit-of-zero, from-digits-same, from-digits-bits}
+use Rattle.bits.proofs.Words.{xor-cut}
+use Rattle.code.specs.Code.{digit, parityAt, withTail, sentDigit, sentFrame, sent}
+use Rattle.code.specs.Guarantees.{Guarantees}
+use Rattle.code.specs.declared.Card.{Card}
+use Rattle.burst.specs.Registers.{generatorSum}
+use Rattle.burst.specs.Sent.{SentSoFar}
+use Rattle.burst.proofs.Coming.{coming-start, register-parity, register-next}
+
+-- no information, no generators
+sum-of-none : (g : List ℕ) (k j : ℕ) → generatorSum g k (0 % 2 ^ k) j ≡ 0
+unfolding generatorSum xorBelow
+sum-of-none g k j =
+    xor-cut k 0 _ (omega arith)
+    (λ i l. ap (λ x. getD g (i * 8 + j) 0 * bit x i) (zero-mod (2 ^ k)) ∙ ap (λ x. getD g (i * 8 + j) 0 * x) (bit-of-zero i) ∙ omega arith)
+
+-- a frame of one parity stream: the information digits, and above them the parity
+frame-is : (c : Card) → c .p ≡ 1 → (frames : List ℕ) (t : ℕ) {f parity : ℕ} → f ≡ getD frames t 0 → parity ≡ parityAt c frames 0 t
+    → f % 2 ^ c .k + parity * 2 ^ c .k ≡ sentFrame c frames t
+unfolding sentFrame fromDigits
+frame-is c one frames t {f} {parity} hf hp =
+    sum-step (c .k) (λ s. sentDigit c frames t s * 2 ^ s) (sym (from-digits-bits (c .k) f) ∙ from-digits-same (c .k) (bit f) (sentDigit c frames t) low)
+    (ap (λ x. x * 2 ^ c .k) (hp ∙ high))
+    ∙ ap (λ p. fromDigits (c .k + p) (sentDigit c frames t)) (sym one)
+  where
+    low : (s : ℕ) → s < c .k → bit f s ≡ sentDigit c frames t s
+    low s l = unfold sentDigit digit in rw (lt-ltb s (c .k) l) (ap (λ x. bit x s) hf)
+
+    high : parityAt c frames 0 t ≡ sentDigit c frames t (c .k)
+    high = unfold sentDigit in (let e : c .k - c .k ≡ 0 = omega arith in rw (le-ltb (c .k) (c .k) (le-refl (c .k)), e))
+
+module _ (c : Card) (G : Guarantees c) (one : c .p ≡ 1) (input output₀ : List ℕ) where
+  pub sent-start : SentSoFar c input output₀ 0 0 output₀
+  unfolding upTo
+  sent-start = record { coming-at = λ a. bit-of-zero a ∙ sym (coming-start c (withTail c input) 0 a); output-is = refl }
+
+  -- a frame within the output is within what it was
+  within : {t coming : ℕ} {output : List ℕ} → SentSoFar c input output₀ t coming output → t < length output → t < length output₀
+  within {t} S l =
+      omega (arith, ap length (S .output-is), length-append (upTo t (sentFrame c (withTail c input))) (drop t output₀), upTo-length t (sentFrame c (withTail c input)), length-drop t output₀)
+
+  -- the frame that is sent for the information frame f
+  pub sent-turn : {t f sum coming x : ℕ} {output : List ℕ} → t < length output → f ≡ getD input t 0
+      → sum ≡ generatorSum (c .generators) (c .k) (f % 2 ^ c .k) 0 → x ≡ f % 2 ^ c .k + bitXor coming sum % 2 * 2 ^ c .k
+      → SentSoFar c input output₀ t coming output → SentSoFar c input output₀ (t + 1) (bitXor coming sum / 2) (set output t x)
+  unfolding withTail
+  sent-turn {t} {f} {sum} {coming} {x} {output} l hf hs hx S =
+      let frames = withTail c input in
+      let now : f ≡ getD frames t 0 = hf ∙ sym (zeros-after input (c .m) t) in
+      record {
+        coming-at = rw add-one (register-next c G frames t f 0 coming sum now hs (S .coming-at));
+        output-is = part-step (sentFrame c frames) output₀ t output x (within S l) (S .output-is)
+            (hx ∙ frame-is c one frames t now (register-parity c G frames t f 0 coming sum now hs (S .coming-at)));
+      }
+
+  -- the tail's: no information, and nothing is added to the parity to come
+  pub tail-turn : {t coming x : ℕ} {output : List ℕ} → length input ≤ t → t < length output → x ≡ 0 + coming % 2 * 2 ^ c .k
+      → SentSoFar c input output₀ t coming output → SentSoFar c input output₀ (t + 1) (coming / 2) (set output t x)
+  tail-turn {t} {coming} {x} {output} h l hx S =
+      let none : 0 % 2 ^ c .k ≡ 0 = zero-mod (2 ^ c .k) in
+      let same : bitXor coming 0 ≡ coming = xor-zero-r coming in
+      rw same at
+      (sent-turn {x = x} l (sym (List·getD-eq-default input 0 h)) (sym (sum-of-none (c .generators) (c .k) 0)) (rw (none, same) hx) S)
+
+  -- every frame is sent
+  pub sent-end : {t coming : ℕ} {output : List ℕ} → t ≤ length input + c .m → length input + c .m ≤ t → SentSoFar c input output₀ t coming output
+      → output ≡ sent c input ++ drop (length input + c .m) output₀
+  unfolding sent
+  sent-end l r S = S .output-is ∙ ap (λ i. upTo i (sentFrame c (withTail c input)) ++ drop i output₀) (le-antisymm l r)
