@@ -1,8 +1,8 @@
--- The loops of the burst sender of one parity stream: their start, a turn of each, and their end.
+-- The loops of the burst sender of one parity stream: where they start, and a turn of each.
 use Prim.Native.Nat.{ℕ, _+_, _-_, _*_, _/_, _%_, _^_, _≤_, _<_}
 use mathlib.Core.Path.{_≡_, refl, sym, ap, _∙_}
-use mathlib.Core.List.{List, _++_}
-use native.Mathlib.Nat.{le-refl, le-antisymm, zero-mod}
+use mathlib.Core.List.{List}
+use native.Mathlib.Nat.{le-refl, zero-mod}
 use native.Mathlib.Numerals.{add-one}
 use native.Mathlib.Omega.{arith}
 use lib.ListN.{length, getD, drop, set, length-append, length-drop, List·getD-eq-default}
@@ -14,7 +14,7 @@ use Rattle.bits.proofs.Sums.{sum-step}
 use Rattle.bits.proofs.Lists.{zeros-after, upTo-length, part-step}
 use Rattle.bits.proofs.Digits.{bit-of-zero, from-digits-same, from-digits-bits}
 use Rattle.bits.proofs.Words.{xor-cut}
-use Rattle.code.specs.Code.{digit, parityAt, withTail, sentDigit, sentFrame, sent}
+use Rattle.code.specs.Code.{digit, parityAt, withTail, sentDigit, sentFrame}
 use Rattle.code.specs.Guarantees.{Guarantees}
 use Rattle.code.specs.declared.Card.{Card}
 use Rattle.burst.specs.Registers.{generatorSum}
@@ -54,11 +54,11 @@ module _ (c : Card) (G : Guarantees c) (one : c .p ≡ 1) (input output₀ : Lis
       omega (arith, ap length (S .output-is), length-append (upTo t (sentFrame c (withTail c input))) (drop t output₀), upTo-length t (sentFrame c (withTail c input)), length-drop t output₀)
 
   -- the frame that is sent for the information frame f
-  pub sent-turn : {t f sum coming x : ℕ} {output : List ℕ} → t < length output → f ≡ getD input t 0
+  pub information-turn : {t f sum coming x : ℕ} {output : List ℕ} → t < length output → f ≡ getD input t 0
       → sum ≡ generatorSum (c .generators) (c .k) (f % 2 ^ c .k) 0 → x ≡ f % 2 ^ c .k + bitXor coming sum % 2 * 2 ^ c .k
       → SentSoFar c input output₀ t coming output → SentSoFar c input output₀ (t + 1) (bitXor coming sum / 2) (set output t x)
   unfolding withTail
-  sent-turn {t} {f} {sum} {coming} {x} {output} l hf hs hx S =
+  information-turn {t} {f} {sum} {coming} {x} {output} l hf hs hx S =
       let frames = withTail c input in
       let now : f ≡ getD frames t 0 = hf ∙ sym (zeros-after input (c .m) t) in
       record {
@@ -74,10 +74,4 @@ module _ (c : Card) (G : Guarantees c) (one : c .p ≡ 1) (input output₀ : Lis
       let none : 0 % 2 ^ c .k ≡ 0 = zero-mod (2 ^ c .k) in
       let same : bitXor coming 0 ≡ coming = xor-zero-r coming in
       rw same at
-      (sent-turn {x = x} l (sym (List·getD-eq-default input 0 h)) (sym (sum-of-none (c .generators) (c .k) 0)) (rw (none, same) hx) S)
-
-  -- every frame is sent
-  pub sent-end : {t coming : ℕ} {output : List ℕ} → t ≤ length input + c .m → length input + c .m ≤ t → SentSoFar c input output₀ t coming output
-      → output ≡ sent c input ++ drop (length input + c .m) output₀
-  unfolding sent
-  sent-end l r S = S .output-is ∙ ap (λ i. upTo i (sentFrame c (withTail c input)) ++ drop i output₀) (le-antisymm l r)
+      (information-turn {x = x} l (sym (List·getD-eq-default input 0 h)) (sym (sum-of-none (c .generators) (c .k) 0)) (rw (none, same) hx) S)

@@ -1,4 +1,4 @@
--- The loop of the burst sender: a turn, and its end.
+-- The loop of the burst sender by history: a turn. And the end of every loop of a sender.
 use Prim.Native.Nat.{ℕ, _+_, _≤_, _<_}
 use mathlib.Core.Path.{_≡_, ap, _∙_}
 use mathlib.Core.List.{List, _++_}
@@ -29,7 +29,8 @@ module _ (c : Card) (G : Guarantees c) (input output₀ : List ℕ) where
         (hx ∙ ap (λ h. frameBy (c .generators) h (c .k) (c .p) f) hn ∙ turn-frame c G input at registers f hf (S .0)),
   )
 
-  pub sent-end : (at : ℕ) (registers output : List ℕ) → at ≤ length input + c .m → length input + c .m ≤ at → SentBefore c input output₀ at registers output
-      → output ≡ sent c input ++ drop (length input + c .m) output₀
-  unfolding sent
-  sent-end at registers output l r S = S .1 ∙ ap (λ i. upTo i (sentFrame c (withTail c input)) ++ drop i output₀) (le-antisymm l r)
+-- every frame is sent
+pub sent-end : (c : Card) (input output₀ : List ℕ) {at : ℕ} {output : List ℕ} → at ≤ length input + c .m → length input + c .m ≤ at
+    → output ≡ upTo at (sentFrame c (withTail c input)) ++ drop at output₀ → output ≡ sent c input ++ drop (length input + c .m) output₀
+unfolding sent
+sent-end c input output₀ l r e = e ∙ ap (λ i. upTo i (sentFrame c (withTail c input)) ++ drop i output₀) (le-antisymm l r)

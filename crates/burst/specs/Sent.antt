@@ -19,5 +19,5 @@ pub record SentSoFar (c : Card) (input output₀ : List ℕ) (t coming : ℕ) (o
   pub output-is : output ≡ upTo t (sentFrame c (withTail c input)) ++ drop t output₀
 
 -- every accepted card of one parity stream whose generators have these sums has the property, whatever its memory
-abbrev pub EverySummed : List ℕ → ℕ → (Card → Type 0) → Type 0
-EverySummed sums k P = (generators : List ℕ) → HasStreamSums generators k 0 (2 ^ k) sums → (m : ℕ) → EveryCode generators k 1 m P
+abbrev pub EveryCodeWith : List ℕ → ℕ → (Card → Type 0) → Type 0
+EveryCodeWith sums k P = (generators : List ℕ) → HasStreamSums generators k 0 (2 ^ k) sums → (m : ℕ) → EveryCode generators k 1 m P

@@ -7,7 +7,7 @@ ghost use Prim.Native.Nat.{ℕ, _+_, _*_, _%_, _^_, _<_, _≤_};
 ghost use lib.ListN.{length, drop};
 ghost use Rattle.code.specs.Code.{sent};
 ghost use Rattle.burst.specs.Parts.{EveryCode};
-ghost use Rattle.burst.specs.Sent.{SentSoFar, EverySummed};
+ghost use Rattle.burst.specs.Sent.{SentSoFar, EveryCodeWith};
 use crate::registers::information;
 use crate::registers::stream_sums;
 
@@ -19,10 +19,10 @@ fn frame(info: u32, parities: u32, k: usize) -> u8
     (info + (parities % 2 << k)) as u8
 }
 
-// The information frames. What is handed back is the parity to come behind them.
+// The information frames. What is handed back is the parity to come after them.
 fn send_information(sums: &[u32; 16], k: usize, input: &[u8], output: &mut [u8]) -> u32
     requires { ⌜ (k ≤ 4) × (length (now input) ≤ length (now output)) ⌝ }
-    ensures { λ r. ⌜ EverySummed (now (sums .entry)) k
+    ensures { λ r. ⌜ EveryCodeWith (now (sums .entry)) k
         (λ c. SentSoFar c (now (input .entry)) (now (output .entry)) (length (now (input .entry))) r (now (output .exit))) ⌝ }
 {
     let mut coming: u32 = 0;
@@ -37,19 +37,19 @@ fn send_information(sums: &[u32; 16], k: usize, input: &[u8], output: &mut [u8])
     coming
 }
 
-// The tail, m frames of zero information: the parity to come, and nothing is added to it.
-fn send_tail(behind: u32, k: usize, m: usize, input: &[u8], output: &mut [u8])
+// The tail, m frames of zero information: nothing is added to the parity to come.
+fn send_tail(coming: u32, k: usize, m: usize, input: &[u8], output: &mut [u8])
     requires { ⌜ (k ≤ 4) × (length (now input) + m ≤ length (now output)) ⌝ }
     ensures { λ _. ⌜ ((generators output₀ : List ℕ) → EveryCode generators k 1 m
-        (λ c. SentSoFar c (now (input .entry)) output₀ (length (now (input .entry))) behind (now (output .entry))
+        (λ c. SentSoFar c (now (input .entry)) output₀ (length (now (input .entry))) coming (now (output .entry))
         → now (output .exit) ≡ sent c (now (input .entry)) ++ drop (length (now (input .entry)) + m) output₀)) ⌝ }
 {
     let end = input.len() + m;
-    let mut coming = behind;
+    let mut parities = coming;
     let mut at = input.len();
     while at < end {
-        output[at] = frame(0, coming, k);
-        coming = coming >> 1;
+        output[at] = frame(0, parities, k);
+        parities = parities >> 1;
         at += 1;
     }
 }
@@ -61,6 +61,6 @@ pub(crate) fn send(generators: &[u32; 32], k: usize, m: usize, input: &[u8], out
         (λ c. now (output .exit) ≡ sent c (now (input .entry)) ++ drop (length (now (input .entry)) + m) (now (output .entry))) ⌝ }
 {
     let sums = stream_sums(generators, k, 0);
-    let behind = send_information(&sums, k, input, output);
-    send_tail(behind, k, m, input, output);
+    let coming = send_information(&sums, k, input, output);
+    send_tail(coming, k, m, input, output);
 }

@@ -60,7 +60,7 @@ pub(crate) fn generator_sums(generators: &[u32; 32], k: usize, p: usize) -> [u32
     sums
 }
 
-// The sum for each x of k digits on one parity stream, at x: small, and nothing to work out between a frame and its sum.
+// The same on parity stream j alone, at x: a small table, since a short burst has to wait for it too.
 pub(crate) fn stream_sums(generators: &[u32; 32], k: usize, j: usize) -> [u32; 16]
     requires { ⌜ (k ≤ 4) × (j < 8) ⌝ }
     ensures { λ r. ⌜ HasStreamSums (now (generators .entry)) k j (2 ^ k) r ⌝ }

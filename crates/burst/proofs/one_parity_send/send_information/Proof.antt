@@ -6,16 +6,15 @@ use native.Mathlib.Nat.{le-antisymm, mod-lt}
 use native.Mathlib.Omega.{arith}
 use lib.ListN.{length, getD, length-set}
 use lib.Pow.{pow-pos}
-use borrow.Author.Needs.{needs}
 use Rattle.burst.specs.Parts.{cardFrom}
-use Rattle.burst.specs.Sent.{SentSoFar, EverySummed}
-use Rattle.burst.proofs.OneParitySending.{sent-start, sent-turn}
+use Rattle.burst.specs.Sent.{SentSoFar, EveryCodeWith}
+use Rattle.burst.proofs.OneParitySending.{sent-start, information-turn}
 use Rattle.burst.proofs.one_parity_send.send_information.Statement.{statement}
 use Rattle.burst.proofs.one_parity_send.send_information.Tie as tie
 
 abbrev Inv-loop : tie.InvT-loop
 Inv-loop sums k input output₀ coming₀ at₀ output coming at =
-    (at ≤ length input) × (length output ≡ length output₀) × EverySummed sums k (λ c. SentSoFar c input output₀ at coming output)
+    (at ≤ length input) × (length output ≡ length output₀) × EveryCodeWith sums k (λ c. SentSoFar c input output₀ at coming output)
 
 abbrev μ-loop : tie.MeasureT-loop
 μ-loop sums k input output₀ coming₀ at₀ output coming at = length input - at
@@ -61,7 +60,7 @@ loop-again c =
       omega arith,
       length-set (l .output) (l .at) (c .frame .result) ∙ l .inv .1,
       λ generators S m counts checks number G.
-          sent-turn (cardFrom number generators counts checks (a .k) 1 m) G refl (a .input .now) (a .output .now) (omega arith) refl
+          information-turn (cardFrom number generators counts checks (a .k) 1 m) G refl (a .input .now) (a .output .now) (omega arith) refl
           (ap (λ x. getD (a .sums .now) x 0) at ∙ S _ (mod-lt (getD (a .input .now) (l .at) 0) (pow-pos (a .k)))) (rw (info .ensures .0) at (c .frame .ensures))
           (l .inv .2 generators S m counts checks number G),
     )

@@ -7,17 +7,18 @@ use native.Mathlib.Omega.{arith}
 use lib.ListN.{length, length-set}
 use Rattle.burst.specs.Parts.{cardFrom, EveryCode}
 use Rattle.burst.specs.Sent.{SentSoFar}
-use Rattle.burst.proofs.OneParitySending.{tail-turn, sent-end}
+use Rattle.burst.proofs.Sending.{sent-end}
+use Rattle.burst.proofs.OneParitySending.{tail-turn}
 use Rattle.burst.proofs.one_parity_send.send_tail.Statement.{statement}
 use Rattle.burst.proofs.one_parity_send.send_tail.Tie as tie
 
 abbrev Inv-loop : tie.InvT-loop
-Inv-loop behind k m input output₀ end coming₀ at₀ output coming at =
+Inv-loop coming k m input output₀ end parities₀ at₀ output parities at =
     (length input ≤ at) × (at ≤ end) × (length output ≡ length output₀)
-    × ((generators output₁ : List ℕ) → EveryCode generators k 1 m (λ c. SentSoFar c input output₁ (length input) behind output₀ → SentSoFar c input output₁ at coming output))
+    × ((generators output₁ : List ℕ) → EveryCode generators k 1 m (λ c. SentSoFar c input output₁ (length input) coming output₀ → SentSoFar c input output₁ at parities output))
 
 abbrev μ-loop : tie.MeasureT-loop
-μ-loop behind k m input output₀ end coming₀ at₀ output coming at = end - at
+μ-loop coming k m input output₀ end parities₀ at₀ output parities at = end - at
 
 add-end : tie.Need-add-end Inv-loop μ-loop
 add-end c = omega arith
@@ -56,8 +57,8 @@ returns : tie.Need-returns Inv-loop μ-loop
 returns c generators output₁ counts checks number G S =
     let a = c .before .before .before .before .args in
     let l = c .before .loop in
-    sent-end (cardFrom number generators counts checks (a .k) 1 (a .m)) G refl (a .input .now) output₁ (l .inv .1) (c .loop-test .left)
-    (l .inv .3 generators output₁ counts checks number G S)
+    sent-end (cardFrom number generators counts checks (a .k) 1 (a .m)) (a .input .now) output₁ (l .inv .1) (c .loop-test .left)
+    (l .inv .3 generators output₁ counts checks number G S .output-is)
 
 pub send-tail-spec : {M : Type 1} → statement M
 send-tail-spec =

@@ -68,7 +68,8 @@ returns : tie.Need-returns Inv-loop μ-loop
 returns c counts checks number G =
     let a = c .before .before .before .before .args in
     let l = c .before .loop in
-    sent-end (cardFrom number (a .generators .now) counts checks (a .k) (a .p) (a .m)) G (a .input .now) (a .output .now) (l .at) (l .registers) (l .output) (l .inv .0) (c .loop-test .left) (l .inv .2 counts checks number G)
+    sent-end (cardFrom number (a .generators .now) counts checks (a .k) (a .p) (a .m)) (a .input .now) (a .output .now) (l .inv .0) (c .loop-test .left)
+    (l .inv .2 counts checks number G .1)
 
 pub send-by-history-spec : {M : Type 1} → statement M
 send-by-history-spec =
