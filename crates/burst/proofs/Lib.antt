@@ -7,5 +7,5 @@ pub mod Following
 pub mod Deciding
 pub mod Waiting
 pub mod HandingOut
-pub mod OneParity
+pub mod OneParityReceiving
 pub mod OneParitySending

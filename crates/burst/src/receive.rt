@@ -11,7 +11,7 @@ ghost use Rattle.outcomes.specs.Claims.{ComesOutAsSent};
 ghost use Rattle.burst.specs.Parts.{EveryCard};
 use crate::answer::counted;
 use crate::answer::refused;
-use crate::one_parity;
+use crate::one_parity_receive;
 use crate::parities;
 use crate::registers::generator_sums;
 use card::CardRule;
@@ -40,7 +40,7 @@ fn receive_frames<'a>(
     }
     let sums = generator_sums(generators, k, p);
     if p == 1 {
-        one_parity::receive(&sums, counts, checks, k, m, input, output);
+        one_parity_receive::receive(&sums, counts, checks, k, m, input, output);
         return;
     }
     parities::receive(&sums, counts, checks, k, p, m, input, output);

@@ -1,5 +1,5 @@
 use Rattle.burst.proofs.HandingOut.{none-handed}
-use Rattle.burst.proofs.OneParity.{of-one-parity}
+use Rattle.burst.proofs.OneParityReceiving.{of-one-parity}
 use borrow.Author.Needs.{needs}
 use Rattle.burst.proofs.receive.receive_frames.Statement.{statement}
 use Rattle.burst.proofs.receive.receive_frames.Tie as tie

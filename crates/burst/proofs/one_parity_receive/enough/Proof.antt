@@ -5,8 +5,8 @@ use lib.Count.{ones, ones-le}
 use lib.Dec.{ltb}
 use borrow.Author.Tests.{le-ltb}
 use borrow.Author.Needs.{needs}
-use Rattle.burst.proofs.one_parity.enough.Statement.{statement}
-use Rattle.burst.proofs.one_parity.enough.Tie as tie
+use Rattle.burst.proofs.one_parity_receive.enough.Statement.{statement}
+use Rattle.burst.proofs.one_parity_receive.enough.Tie as tie
 
 returns : tie.Need-returns
 returns c =

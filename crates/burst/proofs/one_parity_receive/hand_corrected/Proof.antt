@@ -4,10 +4,10 @@ use native.Mathlib.Omega.{arith}
 use lib.ListN.{getD, replicate}
 use Rattle.majority.specs.Voting.{decideBy}
 use Rattle.majority.proofs.Sorting.{sorted-decides}
-use Rattle.burst.proofs.OneParity.{put-in, sorted-small, word-turn}
+use Rattle.burst.proofs.OneParityReceiving.{put-in, sorted-small, word-turn}
 use borrow.Author.Needs.{needs}
-use Rattle.burst.proofs.one_parity.hand_corrected.Statement.{statement}
-use Rattle.burst.proofs.one_parity.hand_corrected.Tie as tie
+use Rattle.burst.proofs.one_parity_receive.hand_corrected.Statement.{statement}
+use Rattle.burst.proofs.one_parity_receive.hand_corrected.Tie as tie
 
 shared-slice-read-taken-in : tie.Need-shared-slice-read-taken-in
 shared-slice-read-taken-in c = search needs

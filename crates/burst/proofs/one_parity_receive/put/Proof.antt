@@ -8,8 +8,8 @@ use lib.Pow.{pow-pos, pow-mono, shl-exact}
 use Rattle.burst.specs.Registers.{putOf}
 use Rattle.burst.proofs.Summing.{size-is}
 use borrow.Author.Needs.{needs}
-use Rattle.burst.proofs.one_parity.put.Statement.{statement}
-use Rattle.burst.proofs.one_parity.put.Tie as tie
+use Rattle.burst.proofs.one_parity_receive.put.Statement.{statement}
+use Rattle.burst.proofs.one_parity_receive.put.Tie as tie
 
 -- the streams in a frame are a number below 16
 at-lt : (f k : ℕ) {x : ℕ} → k ≤ 4 → x ≡ f % (1 * 2 ^ k % 2 ^ 32) → x < 16

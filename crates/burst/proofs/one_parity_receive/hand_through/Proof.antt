@@ -8,9 +8,9 @@ use lib.ListN.{length, getD, length-set}
 use borrow.Author.Tests.{ltb-false}
 use Rattle.burst.specs.Registers.{AtLeast, inOne}
 use Rattle.burst.specs.Held.{HandedOut, EveryTables}
-use Rattle.burst.proofs.OneParity.{put-in, word-through}
-use Rattle.burst.proofs.one_parity.hand_through.Statement.{statement}
-use Rattle.burst.proofs.one_parity.hand_through.Tie as tie
+use Rattle.burst.proofs.OneParityReceiving.{put-in, word-through}
+use Rattle.burst.proofs.one_parity_receive.hand_through.Statement.{statement}
+use Rattle.burst.proofs.one_parity_receive.hand_through.Tie as tie
 
 abbrev Inv-loop : tie.InvT-loop
 Inv-loop before puts least k m from input output₀ word₀ t₀ output word t =

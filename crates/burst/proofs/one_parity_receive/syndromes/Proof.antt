@@ -4,9 +4,9 @@ use native.Mathlib.Omega.{arith}
 use lib.Pow.{pow-pos, pow-mono}
 use mathlib.Core.Path.{refl}
 use borrow.Author.Needs.{needs}
-use Rattle.burst.proofs.OneParity.{twice-is}
-use Rattle.burst.proofs.one_parity.syndromes.Statement.{statement}
-use Rattle.burst.proofs.one_parity.syndromes.Tie as tie
+use Rattle.burst.proofs.OneParityReceiving.{twice-is}
+use Rattle.burst.proofs.one_parity_receive.syndromes.Statement.{statement}
+use Rattle.burst.proofs.one_parity_receive.syndromes.Tie as tie
 
 shl-result : tie.Need-shl-result
 shl-result c = search needs

@@ -6,9 +6,9 @@ use lib.Bits.{bitXor}
 use lib.ListN.{getD}
 use lib.Pow.{pow-pos, pow-mono}
 use borrow.Author.Needs.{needs}
-use Rattle.burst.proofs.OneParity.{twice-is}
-use Rattle.burst.proofs.one_parity.taken_in.Statement.{statement}
-use Rattle.burst.proofs.one_parity.taken_in.Tie as tie
+use Rattle.burst.proofs.OneParityReceiving.{twice-is}
+use Rattle.burst.proofs.one_parity_receive.taken_in.Statement.{statement}
+use Rattle.burst.proofs.one_parity_receive.taken_in.Tie as tie
 
 -- the place in the table
 at-lt : (x k : ℕ) → 2 * 2 ^ k % 2 ^ 64 ≡ 2 ^ (k + 1) → k + 1 < 6 → x % (2 * 2 ^ k % 2 ^ 64) < 32

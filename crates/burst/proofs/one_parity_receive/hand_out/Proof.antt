@@ -9,8 +9,8 @@ use Rattle.majority.specs.Ballot.{Sorted}
 use Rattle.burst.specs.Registers.{AtLeast, inOne, HasPuts}
 use Rattle.burst.specs.Held.{Tables, tables, HandedOut}
 use Rattle.burst.proofs.HandingOut.{hand-on, all-from}
-use Rattle.burst.proofs.one_parity.hand_out.Statement.{statement}
-use Rattle.burst.proofs.one_parity.hand_out.Tie as tie
+use Rattle.burst.proofs.one_parity_receive.hand_out.Statement.{statement}
+use Rattle.burst.proofs.one_parity_receive.hand_out.Tie as tie
 
 abbrev Inv-loop : tie.InvT-loop
 Inv-loop filled puts least sums counts alone several left k m input output₀ word₀ t₀ output word t =

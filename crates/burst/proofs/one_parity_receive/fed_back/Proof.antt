@@ -1,8 +1,8 @@
 use mathlib.Core.Path.{refl}
 use mathlib.Core.Logic.{inl, inr}
 use borrow.Author.Needs.{needs}
-use Rattle.burst.proofs.one_parity.fed_back.Statement.{statement}
-use Rattle.burst.proofs.one_parity.fed_back.Tie as tie
+use Rattle.burst.proofs.one_parity_receive.fed_back.Statement.{statement}
+use Rattle.burst.proofs.one_parity_receive.fed_back.Tie as tie
 
 returns : tie.Need-returns
 returns c = inl (c .if1 .taken, refl)

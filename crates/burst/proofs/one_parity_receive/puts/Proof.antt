@@ -6,9 +6,9 @@ use lib.Seq.{getD-set-same, getD-set-other}
 use borrow.Author.Count.{below-more}
 use lib.Pow.{pow-mono}
 use Rattle.burst.specs.Registers.{HasPuts}
-use Rattle.burst.proofs.OneParity.{twice-is}
-use Rattle.burst.proofs.one_parity.puts.Statement.{statement}
-use Rattle.burst.proofs.one_parity.puts.Tie as tie
+use Rattle.burst.proofs.OneParityReceiving.{twice-is}
+use Rattle.burst.proofs.one_parity_receive.puts.Statement.{statement}
+use Rattle.burst.proofs.one_parity_receive.puts.Tie as tie
 
 -- a frame of the table
 turn-of : (k : ℕ) {f : ℕ} → k ≤ 4 → f < 2 * 2 ^ k % 2 ^ 32 → (f < 2 ^ (k + 1)) × (f < 32)

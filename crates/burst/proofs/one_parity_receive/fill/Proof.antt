@@ -7,9 +7,9 @@ use lib.ListN.{getD}
 use Rattle.burst.specs.Registers.{inOne}
 use Rattle.burst.specs.Held.{tables, Carried, EveryTables}
 use Rattle.burst.proofs.Waiting.{wait-more}
-use Rattle.burst.proofs.OneParity.{put-in, taken-into}
-use Rattle.burst.proofs.one_parity.fill.Statement.{statement}
-use Rattle.burst.proofs.one_parity.fill.Tie as tie
+use Rattle.burst.proofs.OneParityReceiving.{put-in, taken-into}
+use Rattle.burst.proofs.one_parity_receive.fill.Statement.{statement}
+use Rattle.burst.proofs.one_parity_receive.fill.Tie as tie
 
 abbrev Inv-loop : tie.InvT-loop
 Inv-loop puts k m input word₀ t₀ word t = (t ≤ m) × EveryTables puts k m (λ T. Carried T input t (inOne m 0) (inOne m word))

@@ -3,8 +3,8 @@ use native.Mathlib.Omega.{arith}
 use lib.ListN.{getD}
 use borrow.Author.Count.{below-more}
 use Rattle.burst.specs.Registers.{AtLeast}
-use Rattle.burst.proofs.one_parity.least_checks.Statement.{statement}
-use Rattle.burst.proofs.one_parity.least_checks.Tie as tie
+use Rattle.burst.proofs.one_parity_receive.least_checks.Statement.{statement}
+use Rattle.burst.proofs.one_parity_receive.least_checks.Tie as tie
 
 abbrev Inv-loop : tie.InvT-loop
 Inv-loop counts k least₀ i₀ least i = (i ≤ k) × AtLeast counts i least

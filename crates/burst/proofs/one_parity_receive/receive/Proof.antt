@@ -2,10 +2,10 @@ use mathlib.Core.Path.{subst}
 use Rattle.burst.specs.Registers.{inOne}
 use Rattle.burst.specs.Held.{tables, Carried}
 use Rattle.burst.proofs.HandingOut.{all-handed}
-use Rattle.burst.proofs.OneParity.{of-zeros}
+use Rattle.burst.proofs.OneParityReceiving.{of-zeros}
 use borrow.Author.Needs.{needs}
-use Rattle.burst.proofs.one_parity.receive.Statement.{statement}
-use Rattle.burst.proofs.one_parity.receive.Tie as tie
+use Rattle.burst.proofs.one_parity_receive.receive.Statement.{statement}
+use Rattle.burst.proofs.one_parity_receive.receive.Tie as tie
 
 puts-requires : tie.Need-puts-requires
 puts-requires c κs = search needs
