@@ -1,2 +1,5 @@
 pub mod Answers
 pub mod Memory
+pub mod Running
+pub mod Receiving
+pub mod Sending

@@ -1,6 +1,12 @@
-// A receiving session, a call for each frame.
-ghost use Prim.Native.Nat.{_+_, _<_, _≤_};
+// A receiving session that gets a call for each frame.
+ghost use mathlib.Core.Path.{_≡_};
+ghost use Prim.Native.Nat.{_<_, _≤_};
 ghost use lib.ListN.{length};
+ghost use Rattle.receiving.specs.Answers.{answerOf};
+ghost use Rattle.receiving.specs.Calls.{handedBy};
+ghost use Rattle.outcomes.specs.Outcome.{outcome};
+ghost use Rattle.sessions.specs.Receiving.{framesOf, receiveOn, sessionReceiveOf};
+ghost use Rattle.sessions.specs.Run.{PutAt, Handed};
 use crate::answer::counted;
 use crate::answer::refused;
 use card::Refusal;
@@ -9,10 +15,10 @@ use code::MOST_FRAMES;
 use decoder::Session;
 use receiving::Answer;
 
-// The frame that an answer hands out, if it does, put into the output there; the place after it.
+// The frame that an answer hands out, if it does, put into the output at a place; the place after it.
 fn put(answer: Answer, output: &mut [u8], at: usize) -> usize
     requires { ⌜ at < length (now output) ⌝ }
-    ensures { λ r. ⌜ r ≤ at + 1 ⌝ }
+    ensures { λ r. ⌜ PutAt at (handedBy (answerOf answer)) (now (output .entry)) (now (output .exit)) r ⌝ }
 {
     match answer {
         Answer::Frame(frame) => {
@@ -24,10 +30,11 @@ fn put(answer: Answer, output: &mut [u8], at: usize) -> usize
     }
 }
 
-// A call for each frame of the input, under the session's own card number. The frames handed out stand at the front of the output; how many there are.
+// A call for each frame, under the session's own card number: how many frames were handed out, which stand at the front of the output.
 fn receive_frames(opened: Session, input: &[u8], output: &mut [u8]) -> usize
     requires { ⌜ length (now input) ≤ length (now output) ⌝ }
     ensures { λ r. ⌜ r ≤ length (now (input .entry)) ⌝ }
+    ensures { λ r. ⌜ Handed (framesOf opened (now (input .entry))) (now (output .entry)) (now (output .exit)) r ⌝ }
 {
     let number = opened.card.number;
     let mut session = opened;
@@ -43,8 +50,10 @@ fn receive_frames(opened: Session, input: &[u8], output: &mut [u8]) -> usize
     count
 }
 
-// With a session of an accepted card.
-fn receive_under(session: Session, input: &[u8], output: &mut [u8]) -> i32 {
+// On an open session. More frames than a stream has are refused before any call, so that the count fits the answer.
+fn receive_on(session: Session, input: &[u8], output: &mut [u8]) -> i32
+    ensures { λ r. ⌜ outcome r (now (output .exit)) ≡ receiveOn session (now (input .entry)) (now (output .entry)) ⌝ }
+{
     if MOST_FRAMES < input.len() {
         return refused(Refusal::TooManyFrames);
     }
@@ -54,12 +63,16 @@ fn receive_under(session: Session, input: &[u8], output: &mut [u8]) -> i32 {
     counted(receive_frames(session, input, output))
 }
 
+// Opens a session and calls it for each frame: the count of frames handed out, or minus the refusal. A call that is refused hands nothing out,
+// and the run goes on. Only so many bytes of the output are written.
 #[no_mangle]
-pub extern "C" fn session_receive(card: &[u8], input: &[u8], output: &mut [u8]) -> i32 {
+pub extern "C" fn session_receive(card: &[u8], input: &[u8], output: &mut [u8]) -> i32
+    ensures { λ r. ⌜ outcome r (now (output .exit)) ≡ sessionReceiveOf (now (card .entry)) (now (input .entry)) (now (output .entry)) ⌝ }
+{
     let opened = decoder::open(card);
     let verdict = opened.verdict;
     match verdict {
-        Verdict::Accepted => receive_under(opened.session, input, output),
+        Verdict::Accepted => receive_on(opened.session, input, output),
         Verdict::Refused { refusal, offset: _ } => refused(refusal),
     }
 }

@@ -1,0 +1,3 @@
+pub mod Run
+pub mod Receiving
+pub mod Sending
