@@ -7,10 +7,13 @@ use mathlib.Core.Bool.{Bool, cond}
 use mathlib.Core.List.{List}
 use lib.ListN.{replicate}
 use lib.Dec.{leb, ltb}
+use Rattle.card.specs.Refusals.{numberOf}
 use Rattle.code.specs.Code.{mostFrames}
 use Rattle.code.specs.Registers.{historyBy, frameBy}
 use Rattle.code.specs.declared.Card.{Card}
 use Rattle.encoder.specs.Outcome.{frame, refused, SendOutcome}
+use Rattle.encoder.specs.declared.Admission.{Admission}
+use Rattle.encoder.specs.declared.Admission.the-variants.{Taken, Refused}
 use Rattle.encoder.specs.declared.Session.{Session}
 
 -- a session before its first frame, with n information frames counted as taken
@@ -56,6 +59,11 @@ digitBeyond s f = leb (2 ^ min (s .card .k) 4) f
 -- 17: "all m tail frames are out; at m = 0 the first tail call"
 abbrev pub tailOut : Session → Bool
 tailOut s = leb (min (s .card .m) 31) (s .tail)
+
+-- an information frame that is taken, as the last of n, or refused
+abbrev pub settledOf : Session → ℕ → Admission → SendOutcome
+settledOf s f (Taken n) = encodedOf s f n (s .tail)
+settledOf s f (Refused refusal) = refusedOf s (numberOf refusal)
 
 -- "sending information 16, 15, 11"
 unfoldable pub sendOf : Session → ℕ → SendOutcome

@@ -3,7 +3,7 @@ ghost use mathlib.Core.Path.{_≡_};
 ghost use Rattle.card.specs.Refusals.{numberOf};
 ghost use Rattle.encoder.specs.Opening.{OpenPromise};
 ghost use Rattle.encoder.specs.Outcome.{published};
-ghost use Rattle.encoder.specs.Sending.{unsentOf, refusedOf, encodedOf, sendOf, sendTailOf};
+ghost use Rattle.encoder.specs.Sending.{unsentOf, refusedOf, encodedOf, settledOf, sendOf, sendTailOf};
 use card::CardRule;
 use card::Refusal;
 use card::Verdict;
@@ -99,23 +99,40 @@ fn encode(s: Session, info: u8, sent: u32, tail: usize) -> Sent
     }
 }
 
-// One information frame in, one frame of all streams out.
-pub fn send(s: Session, info: u8) -> Sent
-    ensures { λ r. ⌜ published r ≡ sendOf s info ⌝ }
+// An information frame is taken, as the last of so many, or refused.
+enum Admission {
+    Taken(u32),
+    Refused(Refusal),
+}
+
+// The refusals of an information frame, in their order.
+fn admit(s: Session, info: u8) -> Admission
+    ensures { λ r. ⌜ settledOf s info r ≡ sendOf s info ⌝ }
 {
     let tail = s.tail;
     if 0 < tail {
-        return refused(s, Refusal::TailBegun);
+        return Admission::Refused(Refusal::TailBegun);
     }
     let sent = s.sent;
     let card = s.card;
     if MOST_FRAMES < sent as usize + 1 + bits::at_most(card.m, 31) {
-        return refused(s, Refusal::TooManyFrames);
+        return Admission::Refused(Refusal::TooManyFrames);
     }
     if bits::beyond(info, bits::at_most(card.k, 4)) {
-        return refused(s, Refusal::DigitBeyondStreams);
+        return Admission::Refused(Refusal::DigitBeyondStreams);
     }
-    encode(s, info, sent + 1, tail)
+    Admission::Taken(sent + 1)
+}
+
+// One information frame in, one frame of all streams out. The session is made at one place, after all tests: its tables are then not copied.
+pub fn send(s: Session, info: u8) -> Sent
+    ensures { λ r. ⌜ published r ≡ sendOf s info ⌝ }
+{
+    let admission = admit(s, info);
+    match admission {
+        Admission::Taken(sent) => encode(s, info, sent, s.tail),
+        Admission::Refused(refusal) => refused(s, refusal),
+    }
 }
 
 // One frame of the tail out, which has zero information and is sent in full.
