@@ -1,3 +1,4 @@
+pub mod Held
 pub mod Step
 pub mod Composed
 pub mod Follow

@@ -75,6 +75,7 @@ fn with_frame(s: Session, frame: u8) -> Session
     ensures { λ r. ⌜ r ≡ withFrame s frame ⌝ }
 {
     let card = s.card;
+    let generators = card.generators;
     let before = s.history;
     let held = s.syndromes;
     let k = bits::at_most(card.k, 4);
@@ -82,15 +83,7 @@ fn with_frame(s: Session, frame: u8) -> Session
     let place = bits::at_most(s.received as usize, card.m);
     let digits = frame as u32;
     let history = code::history(&before, k, digits);
-    let syndromes = registers::with_syndromes(
-        &held,
-        &card.generators,
-        &history,
-        k,
-        p,
-        digits,
-        place,
-    );
+    let syndromes = registers::with_syndromes(&held, &generators, &history, k, p, digits, place);
     let received = s.received + 1;
     Session {
         card,
@@ -109,7 +102,7 @@ fn hand_out(s: Session) -> Received
     let held = s.syndromes;
     let k = bits::at_most(card.k, 4);
     let p = bits::at_most(card.p, 8);
-    let errors = majority::decide(&card.counts, &card.checks, &held, k, p);
+    let errors = registers::errors(&card.counts, &card.checks, &held, k, p);
     let frame = registers::corrected(&history, errors, k, card.m);
     let cleared = registers::taken_out(&held, &card.generators, errors, k, p);
     let syndromes = code::moved_on(&cleared);

@@ -1,7 +1,9 @@
 // The work on the registers of a session. Digit a of syndrome register j is the syndrome of parity stream j at time u + a, where the frame of
 // time u is decided next, with the errors decided before u taken out.
 ghost use mathlib.Core.Path.{_≡_};
-ghost use Prim.Native.Nat.{_<_, _≤_};
+ghost use Prim.Native.Nat.{ℕ, _<_, _≤_};
+ghost use lib.ListN.{getD};
+ghost use Rattle.majority.specs.Voting.{decideBy};
 ghost use Rattle.decoder.specs.Registers.{syndromeBy, withSyndromes, correctedBy, feedbackBy, takenOutBy, onesBy};
 
 // The syndrome of parity stream j: its digit in the frame, plus the parity of the information digits in the history registers.
@@ -33,6 +35,37 @@ pub(crate) fn with_syndromes(
         j += 1;
     }
     next
+}
+
+// The digits that are 1 in one of the first p registers at least: zero only if no syndrome held is 1.
+fn together(held: &[u32; 8], p: usize) -> u32
+    requires { ⌜ p ≤ 8 ⌝ }
+    ensures { λ r. ⌜ (r ≡ 0 → (j : ℕ) → j < p → getD (now (held .entry)) j 0 ≡ 0) ⌝ }
+{
+    let mut all: u32 = 0;
+    let mut j = 0;
+    while j < p {
+        all = all | bits::word(held, j);
+        j += 1;
+    }
+    all
+}
+
+// The decided errors of the frame that is decided next. While no syndrome held is 1 there is no vote.
+pub(crate) fn errors<'a>(
+    counts: &'a [usize; 4],
+    checks: &'a [u32; 512],
+    held: &[u32; 8],
+    k: usize,
+    p: usize,
+) -> u32
+    requires { ⌜ p ≤ 8 ⌝ }
+    ensures { λ r. ⌜ r ≡ decideBy (now (counts .entry)) (now (checks .entry)) (now (held .entry)) k p ⌝ }
+{
+    if together(held, p) == 0 {
+        return 0;
+    }
+    majority::decide(counts, checks, held, k, p)
 }
 
 // The frame of the digits m back in the history registers, each plus its decided error.

@@ -9,8 +9,8 @@ at-most-requires c κs = search needs
 at-most-requires-2 : tie.Need-at-most-requires-2
 at-most-requires-2 c κs = search needs
 
-decide-requires : tie.Need-decide-requires
-decide-requires c κs = search needs
+errors-requires : tie.Need-errors-requires
+errors-requires c κs = search needs
 
 corrected-requires : tie.Need-corrected-requires
 corrected-requires c κs = search needs
@@ -24,7 +24,7 @@ moved-on-requires c κs = search needs
 returns : tie.Need-returns
 returns c =
     let d = c .before .before .before .before .before .before .before .before in
-    handing-is _ (d .before .before .before .before .before .before .at-most .ensures) (d .before .before .before .before .before .at-most2 .ensures) (d .decide .ensures)
+    handing-is _ (d .before .before .before .before .before .before .at-most .ensures) (d .before .before .before .before .before .at-most2 .ensures) (d .errors .ensures)
     (c .before .before .before .before .before .before .corrected .ensures) (c .before .before .taken-out .ensures) (c .moved-on .ensures)
 
 pub hand-out-spec : {M : Type 1} → statement M
@@ -33,7 +33,7 @@ hand-out-spec =
     (tie.spec
     at-most-requires
     at-most-requires-2
-    decide-requires
+    errors-requires
     corrected-requires
     taken-out-requires
     moved-on-requires

@@ -26,7 +26,7 @@ add-received c = search needs
 
 returns : tie.Need-returns
 returns c =
-    let h = c .before .before .before .before .before .before in
+    let h = c .before .before .before .before .before in
     with-frame-is _ (h .before .before .before .before .before .at-most .ensures) (h .before .before .before .before .at-most2 .ensures) _ (h .before .before .at-most3 .ensures)
     (h .history .ensures) (c .before .with-syndromes .ensures)
 
