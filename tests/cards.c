@@ -211,6 +211,21 @@ void standard_fields(int J, struct fields *card)
     }
 }
 
+/* ---- A card of the report ---- */
+
+void eight_checks_card(struct fields *card)
+{
+    static const int terms[] = {0, 11, 13, 16, 17, 19, 20, 21};
+    static const int check_of[] = {1, 8, 6, 6, 7, 8, 6, 0, 8, 0, 0, 2, 0, 3, 7, 8, 4, 5, 0, 6, 7, 8};
+    set_sizes(card, 12, 1, 2, 21);
+    card->J[1] = 8;
+    for (size_t t = 0; t < sizeof terms / sizeof *terms; t++)
+        card->g[1][1][terms[t]] = 1;
+    for (int a = 0; a <= card->m; a++)
+        if (check_of[a])
+            card->check[1][check_of[a]][1][a] = 1;
+}
+
 /* ---- The longest card ---- */
 
 /* The digit that lies r frames after information stream i, both counted from 0, where four frames of a code with one

@@ -11,6 +11,9 @@ void bench_card(char name, struct fields *card);
 /* The standard card with J checks, 2 to 7, by the terms that document 02's R-5 names: nothing is generated here. */
 void standard_fields(int J, struct fields *card);
 
+/* One with eight checks and m 21, of Table II of the report: in each syndrome's place, the check that it goes to, 0 for none. */
+void eight_checks_card(struct fields *card);
+
 /* A random card within the limits whose checks are orthogonal: random checks, kept where they do not clash. */
 void random_card(struct random *r, struct fields *card);
 

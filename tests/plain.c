@@ -1,6 +1,6 @@
 #include "plain.h"
 
-static int any_beyond(const uint8_t *in, size_t count, int streams)
+int any_beyond(const uint8_t *in, size_t count, int streams)
 {
     for (size_t u = 0; u < count; u++)
         if (in[u] >> streams)
