@@ -1,348 +1,274 @@
-/* Measures the library against the plain C of plain.h, in one run and as a ratio, so that the machine matters little:
- * the reading of a card, short bursts and long ones. Both read and test the card in every burst.
+/* Measures the library and the sessions against plain C (plain.h, plain_one.h) and a Viterbi decoder (viterbi.h), in one run
+ * and as ratios, so that the machine matters little: the reading of a card, bursts of three lengths, frames of a session.
+ * All read and test the card in every call; only the Viterbi decoder has none. The goals for the figures stand at the end.
  *
- * No test of time: it fails only if the two give other answers or frames, or refuse other cards.
+ * No test of time: it fails only if two ways give other answers or frames, or refuse other cards.
  *
- * Each time is the least of many turns, the library and the plain C taken in turn for a quarter of a second: long enough
- * for most of what else the machine does to be over. */
-#define _POSIX_C_SOURCE 200809L
-#include "burst.h"
-
-#include "cards.h"
-#include "plain.h"
-#include "random.h"
+ * Each time is the least of many turns, all ways of a row taken in turn within a quarter of a second or a little more: long
+ * enough for most of what else the machine does to be over. A burst's length is in frames as sent, the tail included. */
+#include "bench_cards.h"
+#include "goals.h"
+#include "measure.h"
+#include "must.h"
+#ifdef WITH_LIBFEC
+#include "viterbi.h"
+#endif
 
 #include <stdio.h>
-#include <stdlib.h>
 #include <string.h>
-#include <time.h>
 
-enum {
-    LONG_BURST = 65536, /* information frames */
-    SHORT_BURST = 64,   /* frames as sent, the tail included */
-    CARD_ROUNDS = 4000, /* of five cards each, on which the readers are compared */
-    MOST_ADDED = 4      /* bytes after a card */
-};
+enum { SHORT_BURST = 64, LONG_BURST = 65536, LONGEST_BURST = MOST_FRAMES };
 
-struct subject {
-    const char *name;
-    uint8_t card[MOST_CARD_BYTES];
-    size_t card_length;
-    struct fields fields;
-};
+static uint8_t information[LONGEST_BURST], sent[LONGEST_BURST], received[LONGEST_BURST];
 
-static uint8_t information[LONG_BURST], sent[LONG_BURST + MOST_MEMORY], received[LONG_BURST + MOST_MEMORY];
-static uint8_t by_library[LONG_BURST + MOST_MEMORY], by_plain[LONG_BURST + MOST_MEMORY];
+/* ---- The link ---- */
 
-static void must(int holds, const char *what)
+/* How many of the digits come wrong: one in so many, or none. */
+enum wrong { NONE = 0, FEW = 50, MANY = 10 };
+
+static const char *receiving_row(enum wrong wrong)
 {
-    if (!holds) {
-        printf("FAILED: %s\n", what);
-        exit(1);
-    }
-}
-
-/* ---- Whether the two readers agree ---- */
-
-static long cards_by_answer[HIGHEST_REFUSAL + 1]; /* by the refusal's number; 0, accepted */
-
-static void print_card(const uint8_t *card, size_t length)
-{
-    printf("a card of %zu bytes:", length);
-    for (size_t b = 0; b < length; b++)
-        printf(" %02x", card[b]);
-    printf("\n");
-}
-
-/* An empty burst is answered with 0 or minus the card's refusal. Where in the card the refusal is, the library's calls
- * don't tell; the plain reader's places are set against the reference's. */
-static void compare_readers(const uint8_t *card, size_t length)
-{
-    static struct plain_card plain;
-    static struct fields fields;
-    size_t offset;
-    int refused = plain_read(card, length, &plain, &offset);
-    int32_t answer = burst_receive(card, length, NULL, 0, NULL, 0);
-    struct card_answer reference = reference_read_card(card, length, &fields);
-    int same_place = reference.refusal == refused && (refused == 0 || reference.offset == offset);
-    if (answer != -refused || !same_place)
-        print_card(card, length);
-    must(answer == -refused, "the library and the plain reader give the same number for a card");
-    must(same_place, "the reference and the plain reader give the same number and offset for a card");
-    cards_by_answer[refused]++;
-}
-
-/* Cuts a card short, adds bytes to it or changes one. Gives its length then. */
-static size_t damage(struct random *r, uint8_t *card, size_t length)
-{
-    switch (below(r, 4)) {
-    case 0:
-        return (size_t)below(r, (int)length);
-    case 1:
-        for (int added = between(r, 1, MOST_ADDED); added > 0; added--)
-            card[length++] = (uint8_t)below(r, 256);
-        return length;
-    case 2: /* near the front, where the sizes are */
-        card[below(r, 5)] = (uint8_t)below(r, 12);
-        return length;
+    switch (wrong) {
+    case NONE:
+        return "receive, clean";
+    case FEW:
+        return "receive, 1 in 50 wrong";
     default:
-        card[below(r, (int)length)] ^= (uint8_t)between(r, 1, 255);
-        return length;
+        return "receive, 1 in 10 wrong";
     }
 }
 
-/* The card as it is, or now and then with the defaults that it has stated; and damaged. */
-static void compare_on_fields(struct random *r, const struct fields *fields)
+static size_t information_frames(const struct subject *s, int frames)
 {
-    uint8_t card[MOST_CARD_BYTES + MOST_ADDED];
-    int state = one_in(r, 8) ? between(r, 1, 3) : 0;
-    size_t length = card_bytes(fields, state % 2, state / 2, card);
-    compare_readers(card, length);
-    length = damage(r, card, length);
-    compare_readers(card, length);
+    return (size_t)(frames - s->fields.m);
 }
 
-/* A card that states a default or comes near to it: all refuse it, and where it must be. */
-static void compare_on_stated(struct random *r, enum stated way)
+static struct call call_to_send(const struct subject *s, struct random *r, int frames)
 {
-    static struct fields fields;
-    static struct stated_card stated;
-    static struct plain_card plain;
-    size_t offset;
-    random_stated_card(r, way, &fields, &stated);
-    compare_readers(stated.bytes, stated.length);
-    int refused = plain_read(stated.bytes, stated.length, &plain, &offset);
-    must(refused == stated.answer.refusal && offset == stated.answer.offset, "a stated default is refused where it stands");
+    size_t count = information_frames(s, frames);
+    for (size_t u = 0; u < count; u++)
+        information[u] = (uint8_t)below(r, 1 << s->fields.k);
+    return (struct call){s, information, count, frames};
 }
 
-static void compare_on_cuts(const struct subject *s)
+/* Of what was sent last, in `sent`. */
+static struct call call_to_receive(const struct subject *s, struct random *r, int frames, enum wrong wrong)
 {
-    for (size_t length = 0; length <= s->card_length; length++)
-        compare_readers(s->card, length);
+    memcpy(received, sent, (size_t)frames);
+    if (wrong != NONE)
+        for (int u = 0; u < frames; u++)
+            for (int stream = 0; stream < s->fields.n; stream++)
+                if (one_in(r, wrong))
+                    received[u] ^= (uint8_t)(1 << stream);
+    return (struct call){s, received, (size_t)frames, (int32_t)information_frames(s, frames)};
 }
 
-static void print_agreement(void)
-{
-    long cards = 0;
-    for (int number = 0; number <= HIGHEST_REFUSAL; number++)
-        cards += cards_by_answer[number];
-    printf("The readers agree on %ld cards: %ld accepted, and refused", cards, cards_by_answer[0]);
-    for (int number = 1; number <= HIGHEST_REFUSAL; number++) {
-        if (!refuses_cards(number))
-            continue;
-        must(cards_by_answer[number] > 0, "every refusal of a card is met");
-        printf("%s %d: %ld", number == 1 ? "" : ",", number, cards_by_answer[number]);
-    }
-    printf("\n");
-}
-
-static void compare_on_random_cards(void)
-{
-    static struct fields fields;
-    struct random r = {3};
-    for (int round = 0; round < CARD_ROUNDS; round++) {
-        random_card(&r, &fields);
-        compare_on_fields(&r, &fields);
-        spoil_card(&r, &fields);
-        compare_on_fields(&r, &fields);
-        compare_on_stated(&r, (enum stated)(round % WAYS_OF_STATING));
-    }
-}
-
-/* ---- What is measured ---- */
-
-/* A call that both make, answered as burst.h says; the frames go to by_library and by_plain. */
-struct call {
-    const struct subject *subject;
-    const uint8_t *input;
-    size_t input_length;
-    int32_t answer;
-};
-
-typedef int32_t way(const struct call *call);
-
-static int32_t library_reads(const struct call *c)
-{
-    return burst_receive(c->subject->card, c->subject->card_length, NULL, 0, NULL, 0);
-}
-
-static int32_t library_sends(const struct call *c)
-{
-    return burst_send(c->subject->card, c->subject->card_length, c->input, c->input_length,
-                      by_library, sizeof by_library);
-}
-
-static int32_t library_receives(const struct call *c)
-{
-    return burst_receive(c->subject->card, c->subject->card_length, c->input, c->input_length,
-                         by_library, sizeof by_library);
-}
-
-static int plain_reads_into(const struct call *c, struct plain_card *card)
-{
-    size_t offset;
-    int refused = plain_read(c->subject->card, c->subject->card_length, card, &offset);
-    /* As if both were looked at, lest the compiler leave out what nobody uses. */
-    __asm__ volatile("" : : "r"(card), "r"(&offset) : "memory");
-    return refused;
-}
-
-static int32_t plain_reads(const struct call *c)
-{
-    struct plain_card card;
-    return -plain_reads_into(c, &card);
-}
-
-static int32_t plain_sends(const struct call *c)
-{
-    struct plain_card card;
-    int refused = plain_reads_into(c, &card);
-    return refused ? -refused : (int32_t)plain_send(&card, c->input, c->input_length, by_plain);
-}
-
-static int32_t plain_receives(const struct call *c)
-{
-    struct plain_card card;
-    int refused = plain_reads_into(c, &card);
-    return refused ? -refused : (int32_t)plain_receive(&card, c->input, c->input_length, by_plain);
-}
-
-/* ---- Measuring ---- */
-
-struct times {
-    double library, plain; /* ns a call */
-};
-
-/* Calls in a turn: the clock is too coarse for a single short one. */
-enum { IF_SHORT = 20, IF_LONG = 1 };
-
-static const double row_ns = 0.25e9;
-
-static double now_ns(void)
-{
-    struct timespec t;
-    clock_gettime(CLOCK_MONOTONIC, &t);
-    return 1e9 * (double)t.tv_sec + (double)t.tv_nsec;
-}
-
-static void take_turn(way *make, const struct call *call, int calls, double *least)
-{
-    double started = now_ns();
-    for (int c = 0; c < calls; c++)
-        must(make(call) == call->answer, "every call has the answer that it should");
-    double took = (now_ns() - started) / calls;
-    if (*least == 0 || took < *least)
-        *least = took;
-}
-
-static struct times measure(way *library, way *plain, const struct call *call, int calls)
-{
-    struct times least = {0, 0};
-    double started = now_ns();
-    do {
-        take_turn(library, call, calls, &least.library);
-        take_turn(plain, call, calls, &least.plain);
-    } while (now_ns() - started < row_ns);
-    must(memcmp(by_library, by_plain, (size_t)call->answer) == 0, "both give the same frames");
-    return least;
-}
-
-static void print_row(const struct subject *s, const char *what, struct times t, double parts)
-{
-    printf("%-9s %-26s %8.1f %8.1f %7.2f\n", s->name, what, t.library / parts, t.plain / parts, t.library / t.plain);
-}
-
-/* ---- The tables ---- */
+/* ---- Reading ---- */
 
 static void reading_row(const struct subject *s)
 {
+    static way *const ways[] = {library_reads, generic_reads};
     struct call call = {s, NULL, 0, 0};
+    double ns[2];
     char what[64];
     int length = snprintf(what, sizeof what, "%zu bytes, J", s->card_length);
     for (int i = 1; i <= s->fields.k; i++)
         length += snprintf(what + length, sizeof what - (size_t)length, " %d", s->fields.J[i]);
-    print_row(s, what, measure(library_reads, plain_reads, &call, IF_SHORT), 1);
+    measure(ways, 2, &call, ns);
+    printf("%-9s %-26s %8.1f %8.1f %7.2f\n", s->name, what, ns[0], ns[1], ns[0] / ns[1]);
 }
 
-/* Sends random information, and leaves what was sent for `receiving`. */
-static struct times sending(const struct subject *s, struct random *r, int frames, int calls)
+static void reading_table(void)
 {
-    struct call call = {s, information, (size_t)frames, frames + s->fields.m};
-    for (int u = 0; u < frames; u++)
-        information[u] = (uint8_t)below(r, 1 << s->fields.k);
-    struct times least = measure(library_sends, plain_sends, &call, calls);
-    memcpy(sent, by_library, (size_t)call.answer);
-    return least;
+    printf("\n%-36s %8s %8s %7s\n", "ns to read a card", "library", "plain C", "ratio");
+    for (int s = 0; s < SUBJECTS; s++)
+        reading_row(&subjects[s]);
 }
 
-static struct times receiving(const struct subject *s, struct random *r, int frames, int in_hundred, int calls)
-{
-    struct call call = {s, received, (size_t)(frames + s->fields.m), frames};
-    memcpy(received, sent, call.input_length);
-    for (size_t u = 0; u < call.input_length; u++)
-        for (int stream = 0; stream < s->fields.n; stream++)
-            if (below(r, 100) < in_hundred)
-                received[u] ^= (uint8_t)(1 << stream);
-    return measure(library_receives, plain_receives, &call, calls);
-}
+/* ---- Bursts ---- */
 
-static void short_burst_rows(const struct subject *s)
-{
-    struct random r = {2};
-    int frames = SHORT_BURST - s->fields.m;
-    print_row(s, "send", sending(s, &r, frames, IF_SHORT), 1);
-    print_row(s, "receive", receiving(s, &r, frames, 0, IF_SHORT), 1);
-}
+/* The ways of a row. The specialised and the best C are for k 1 and n 2 alone. */
+enum { LIBRARY, GENERIC, SPECIAL, BEST, BURST_WAYS };
 
-static void long_burst_rows(const struct subject *s)
+static way *const sending_ways[BURST_WAYS] = {library_sends, generic_sends, specialised_sends, best_sends};
+static way *const receiving_ways[BURST_WAYS] = {library_receives, generic_receives, specialised_receives, best_receives};
+
+/* A row's figures; of the ways from `count` on there is none. */
+static void print_figures(const double ns[], int count, double parts, int places)
 {
-    static const int wrong[] = {0, 1, 10};
-    struct random r = {2};
-    double whole = LONG_BURST + s->fields.m;
-    print_row(s, "send", sending(s, &r, LONG_BURST, IF_LONG), whole);
-    for (int w = 0; w < 3; w++) {
-        char what[32];
-        snprintf(what, sizeof what, "receive, %d%% wrong", wrong[w]);
-        print_row(s, what, receiving(s, &r, LONG_BURST, wrong[w], IF_LONG), whole);
+    for (int w = 0; w < BURST_WAYS; w++) {
+        if (w < count)
+            printf(" %8.*f", places, ns[w] / parts);
+        else
+            printf(" %8s", "-");
     }
+    for (int w = GENERIC; w < BURST_WAYS; w++) {
+        if (w < count)
+            printf(" %8.2f", ns[LIBRARY] / ns[w]);
+        else
+            printf(" %8s", "-");
+    }
+    printf("\n");
+}
+
+static void note_burst(const struct subject *s, const double ns[], int frames, int sends, const char *what)
+{
+    char row[48];
+    if (frames < LONG_BURST)
+        return;
+    snprintf(row, sizeof row, "%d frames, %s", frames, what);
+    if (has_one_of_each(s)) {
+        note(sends ? BEST_SENDING : BEST_RECEIVING, ns[LIBRARY] / ns[BEST], s->name, row);
+        note(SPECIALISED, ns[LIBRARY] / ns[SPECIAL], s->name, row);
+    }
+    if (is_longest(s))
+        note(LONGEST_CARD, ns[LIBRARY] / ns[GENERIC], s->name, row);
+}
+
+static void burst_row(const struct call *call, int frames, int sends, const char *what)
+{
+    const struct subject *s = call->subject;
+    way *const *ways = sends ? sending_ways : receiving_ways;
+    int count = has_one_of_each(s) ? BURST_WAYS : SPECIAL;
+    double ns[BURST_WAYS];
+    compare_frames(ways, count, call);
+    measure(ways, count, call, ns);
+    note_burst(s, ns, frames, sends, what);
+    printf("%-9s %-26s", s->name, what);
+    if (frames == SHORT_BURST)
+        print_figures(ns, count, 1, 1);
+    else
+        print_figures(ns, count, (double)information_frames(s, frames) * s->fields.k, 2);
+}
+
+static void burst_rows(const struct subject *s, int frames)
+{
+    static const enum wrong wrong[] = {NONE, FEW, MANY};
+    struct random r = {2};
+    struct call call = call_to_send(s, &r, frames);
+    burst_row(&call, frames, 1, "send");
+    memcpy(sent, output, (size_t)frames);
+    for (int w = 0; w < (frames == SHORT_BURST ? 2 : 3); w++) {
+        call = call_to_receive(s, &r, frames, wrong[w]);
+        burst_row(&call, frames, 0, receiving_row(wrong[w]));
+    }
+}
+
+static void burst_table(int frames, const char *head)
+{
+    printf("\n%-36s %8s %8s %8s %8s %8s %8s %8s\n", head, "library", "generic", "special", "best", "/generic", "/special", "/best");
+    for (int s = 0; s < SUBJECTS; s++)
+        burst_rows(&subjects[s], frames);
+}
+
+/* ---- The Viterbi decoder ---- */
+
+#ifdef WITH_LIBFEC
+
+static int32_t viterbi_decodes(const struct call *c)
+{
+    (void)c; /* it has its own input, of as many information digits */
+    return (int32_t)viterbi_decode();
+}
+
+/* Unmeasured, for `call_to_receive`. */
+static void send_random(const struct subject *s, struct random *r, int frames)
+{
+    struct call call = call_to_send(s, r, frames);
+    must(library_sends(&call) == call.answer, "a burst is sent");
+    memcpy(sent, output, (size_t)frames);
+}
+
+static void viterbi_row(const struct subject *s, struct random *r, enum wrong wrong)
+{
+    static way *const ways[] = {library_receives, viterbi_decodes};
+    struct call call = call_to_receive(s, r, LONG_BURST, wrong);
+    const char *what = receiving_row(wrong);
+    double ns[2], digits = (double)call.answer;
+    viterbi_send(r, information, (size_t)call.answer, wrong);
+    measure(ways, 2, &call, ns);
+    must(wrong != NONE || viterbi_came_as_sent(), "the Viterbi decoder gives what was sent on a clean link");
+    note(VITERBI, ns[1] / ns[0], s->name, what);
+    printf("%-9s %-26s %8.2f %8.2f %16.1f\n", s->name, what, ns[0] / digits, ns[1] / digits, ns[1] / ns[0]);
+}
+
+static void viterbi_table(void)
+{
+    printf("\n%-36s %8s %8s %16s\n", "ns a digit, 65,536 frames", "library", "Viterbi", "Viterbi/library");
+    for (const struct subject *s = subjects; s < subjects + SUBJECTS; s++) {
+        if (!is_main(s) || !has_one_of_each(s))
+            continue;
+        struct random r = {2};
+        send_random(s, &r, LONG_BURST);
+        viterbi_row(s, &r, NONE);
+        viterbi_row(s, &r, FEW);
+    }
+}
+
+#else
+
+static void viterbi_table(void)
+{
+    printf("\nNo rows of a Viterbi decoder: libfec is not installed (Debian has it in libfec-dev).\n");
+}
+
+#endif
+
+/* ---- Sessions ---- */
+
+static void session_row(way *const ways[2], const struct call *call, const char *what)
+{
+    const struct subject *s = call->subject;
+    double ns[2];
+    compare_frames(ways, 2, call);
+    measure(ways, 2, call, ns);
+    note(SESSION, ns[0] / LONG_BURST, s->name, what);
+    printf("%-9s %-26s %8.2f %8.2f %7.2f\n", s->name, what, ns[0] / LONG_BURST, ns[1] / LONG_BURST, ns[0] / ns[1]);
+}
+
+static void session_rows(const struct subject *s)
+{
+    static way *const sending[] = {session_sends, generic_sends}, *const receiving[] = {session_receives, generic_receives};
+    static const enum wrong wrong[] = {NONE, FEW};
+    struct random r = {2};
+    struct call call = call_to_send(s, &r, LONG_BURST);
+    session_row(sending, &call, "send");
+    memcpy(sent, output, LONG_BURST);
+    for (int w = 0; w < 2; w++) {
+        call = call_to_receive(s, &r, LONG_BURST, wrong[w]);
+        session_row(receiving, &call, receiving_row(wrong[w]));
+    }
+}
+
+static void session_table(void)
+{
+    printf("\n%-36s %8s %8s %7s\n", "ns a frame of a session, of 65,536", "session", "generic", "ratio");
+    for (int s = 0; s < SUBJECTS; s++)
+        if (is_main(&subjects[s]))
+            session_rows(&subjects[s]);
 }
 
 /* ---- The run ---- */
 
-enum { SUBJECTS = 6 };
-
-static struct subject subjects[SUBJECTS] = {
-    {.name = "P"}, {.name = "Q"}, {.name = "R"}, {.name = "T"}, {.name = "k3n6m12"}, {.name = "1163 B"}};
-
-static void open_subject(struct subject *s)
+static void print_units(void)
 {
-    struct random r = {1};
-    if (s->name[1] == '\0')
-        bench_card(s->name[0], &s->fields);
-    else if (s->name[0] == 'k')
-        random_card_of_shape(&r, 3, 6, 12, MOST_CHECKS, 4, &s->fields);
-    else
-        longest_card(&s->fields);
-    s->card_length = card_bytes(&s->fields, 0, 0, s->card);
-}
-
-static void print_table(const char *head, void (*print_rows)(const struct subject *))
-{
-    printf("\n%-36s %8s %8s %7s\n", head, "library", "plain C", "ratio");
-    for (int s = 0; s < SUBJECTS; s++)
-        print_rows(&subjects[s]);
+    printf("\nA burst's length is in frames as sent, the tail of m included, and so is a session's.\n"
+           "ns a digit: the time of the call by its information digits, (frames - m) * k.\n"
+           "generic: the C for every card (tests/plain.h); special and best: for k 1, n 2 (tests/plain_one.h).\n");
 }
 
 int main(void)
 {
-    for (int s = 0; s < SUBJECTS; s++) {
-        open_subject(&subjects[s]);
-        compare_on_cuts(&subjects[s]);
-    }
-    compare_on_random_cards();
-    print_agreement();
-    print_table("ns to read a card", reading_row);
-    print_table("ns a burst of 64 frames", short_burst_rows);
-    print_table("ns a frame of 65,536 and the tail", long_burst_rows);
+    setvbuf(stdout, NULL, _IOLBF, 0); /* a run takes a while, and may be watched through a pipe */
+    open_subjects();
+    compare_card_readers();
+    reading_table();
+    print_units();
+    burst_table(SHORT_BURST, "ns a burst of 64 frames");
+    burst_table(LONG_BURST, "ns a digit, 65,536 frames");
+    burst_table(LONGEST_BURST, "ns a digit, 1,048,576 frames");
+    viterbi_table();
+    session_table();
+    print_goals();
     return 0;
 }

@@ -11,6 +11,7 @@ fi
 
 warnings="-std=c11 -Wall -Wextra -Wpedantic"
 library=target/staticlib/libburst.a
+sessions=target/staticlib/libsessions.a
 
 # Whether a file is not there, or something under crates/ has changed since it was built.
 stale() {
@@ -23,15 +24,34 @@ build_library() {
     tests/rt_apart staticlib burst
 }
 
+# The same for the sessions that are measured beside it.
+build_sessions() {
+    stale "$sessions" || return 0
+    tests/rt_apart staticlib sessions
+}
+
 # The same for a program.
 build_program() {
     stale "target/bin/$1" || return 0
     tests/rt_apart check "$1"
 }
 
-# Compiles the measuring program over the library that is named.
+# Compiles the measuring program over the libraries that are named. Functions and loops are aligned, lest a time depend on where the linker puts
+# them: it made as much as a third of the best C's.
 build_bench() {
-    $compiler $warnings -O2 -Iinclude tests/bench.c tests/plain.c tests/plain_card.c tests/cards.c tests/reference.c "$library" -lm -o "$built/bench"
+    $compiler $warnings -O2 -falign-functions=64 -falign-loops=64 -Iinclude tests/{bench,bench_cards,measure,goals,subjects}.c \
+        tests/{plain,plain_card,plain_specialised,plain_best,cards,reference}.c "$sessions" "$library" $(viterbi) -lm -o "$built/bench"
+}
+
+# What the measuring program's Viterbi decoder is compiled with, if libfec is installed.
+viterbi() {
+    local probe
+    probe=$(mktemp -d)
+    printf '#include <fec.h>\nint main(void) { return create_viterbi27(8) == 0; }\n' >"$probe/probe.c"
+    if $compiler "$probe/probe.c" -lfec -o "$probe/probe" 2>/dev/null && "$probe/probe" 2>/dev/null; then
+        echo "-DWITH_LIBFEC tests/viterbi.c -lfec"
+    fi
+    rm -rf "$probe"
 }
 
 compile_trace_driver() {
