@@ -22,9 +22,9 @@ use Rattle.code.specs.Guarantees.{Guarantees}
 use Rattle.code.specs.declared.Card.{Card}
 use Rattle.majority.specs.Rule.{decoded}
 use Rattle.majority.specs.Voting.{decideBy}
-use Rattle.majority.specs.Ballot.{votesSorted, decideSorted}
+use Rattle.ballot.specs.Ballot.{votesSorted, decideSorted}
 use Rattle.majority.proofs.Voting.{decide-lt-k}
-use Rattle.majority.proofs.FewOnes.{decide-few}
+use Rattle.ballot.proofs.FewOnes.{decide-few}
 use Rattle.burst.specs.Parts.{cardFrom, EveryCard}
 use Rattle.burst.specs.Held.{tables, Handing, AllHandedOut}
 use Rattle.burst.proofs.HandingOut.{hand-turn}

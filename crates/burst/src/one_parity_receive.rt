@@ -9,12 +9,12 @@ ghost use lib.Bits.{bitXor};
 ghost use lib.Count.{ones};
 ghost use lib.Dec.{ltb};
 ghost use lib.ListN.{length, getD};
-ghost use Rattle.majority.specs.Ballot.{Sorted};
+ghost use Rattle.ballot.specs.Ballot.{Sorted};
 ghost use Rattle.burst.specs.Registers.{AtLeast, inOne, putOf, HasPuts};
 ghost use Rattle.burst.specs.Held.{tables, Carried, HandedOut, AllHandedOut, AllHandedFrom, EveryTables};
 use crate::registers::corrected;
-use majority::ballot::decide_sorted;
-use majority::ballot::sorted;
+use ballot::decide_sorted;
+use ballot::sorted;
 
 // A short word as a long one.
 fn long(x: u32) -> u64
@@ -243,7 +243,7 @@ pub(crate) fn receive<'a>(
 {
     let puts = puts(sums, k, m);
     let least = least_checks(counts, k);
-    let ballot = sorted(counts, checks, k);
+    let sorted_checks = sorted(counts, checks, k);
     let filled = fill(&puts, k, m, input);
     hand_out(
         filled,
@@ -251,9 +251,9 @@ pub(crate) fn receive<'a>(
         least,
         sums,
         counts,
-        &ballot.alone,
-        &ballot.several,
-        &ballot.left,
+        &sorted_checks.alone,
+        &sorted_checks.several,
+        &sorted_checks.left,
         k,
         m,
         input,

@@ -11,6 +11,3 @@ pub mod SecondCircuit
 pub mod Figures
 -- the vote on registers
 pub mod Voting
-pub mod FewOnes
--- the vote on one register, its checks sorted
-pub mod Sorting

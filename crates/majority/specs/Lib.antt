@@ -2,5 +2,4 @@ pub mod Rule
 pub mod SecondCircuit
 pub mod AsSent
 pub mod Voting
-pub mod Ballot
 pub mod Edges

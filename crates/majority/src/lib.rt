@@ -8,8 +8,6 @@ ghost use lib.Bits.{bitAnd};
 ghost use lib.Dec.{ltb};
 ghost use Rattle.majority.specs.Voting.{checkBy, votesBy, streamVotesBy, decideBy};
 
-pub mod ballot;
-
 // The digits that are 1 in both.
 fn common(x: u32, y: u32) -> u32
     ensures { λ r. ⌜ r ≡ bitAnd x y ⌝ }
@@ -63,7 +61,7 @@ pub fn stream_votes(checks: &[u32; 512], i: usize, count: usize, words: &[u32; 8
 }
 
 // 1 if more than half of the checks are. A tie gives 0.
-fn more_than_half(count: usize, ones: u32) -> u32
+pub fn more_than_half(count: usize, ones: u32) -> u32
     ensures { λ r. ⌜ r ≡ cond (ltb count (2 * ones)) 1 0 ⌝ }
 {
     if count < 2 * bits::index(ones) { 1 } else { 0 }

@@ -3,7 +3,7 @@ use mathlib.Core.List.{_∷_}
 use native.Mathlib.Omega.{arith}
 use lib.ListN.{getD, replicate}
 use Rattle.majority.specs.Voting.{decideBy}
-use Rattle.majority.proofs.Sorting.{sorted-decides}
+use Rattle.ballot.proofs.Sorting.{sorted-decides}
 use Rattle.burst.proofs.OneParityReceiving.{put-in, sorted-small, word-turn}
 use borrow.Author.Needs.{needs}
 use Rattle.burst.proofs.one_parity_receive.hand_corrected.Statement.{statement}

@@ -5,7 +5,7 @@ use mathlib.Core.Path.{_≡_, _∙_}
 use native.Mathlib.Nat.{le-antisymm}
 use native.Mathlib.Omega.{arith}
 use lib.ListN.{length}
-use Rattle.majority.specs.Ballot.{Sorted}
+use Rattle.ballot.specs.Ballot.{Sorted}
 use Rattle.burst.specs.Registers.{AtLeast, inOne, HasPuts}
 use Rattle.burst.specs.Held.{Tables, tables, HandedOut}
 use Rattle.burst.proofs.HandingOut.{hand-on, all-from}

@@ -4,9 +4,9 @@ use mathlib.Core.Bool.{true≢false}
 use native.Mathlib.Omega.{arith}
 use lib.Count.{ones}
 use borrow.Author.Tests.{ltb-true}
-use Rattle.majority.proofs.Sorting.{dot-le-ones}
-use Rattle.majority.proofs.ballot.joins.Statement.{statement}
-use Rattle.majority.proofs.ballot.joins.Tie as tie
+use Rattle.ballot.proofs.Sorting.{dot-le-ones}
+use Rattle.ballot.proofs.joins.Statement.{statement}
+use Rattle.ballot.proofs.joins.Tie as tie
 
 returns : tie.Need-returns
 returns c =

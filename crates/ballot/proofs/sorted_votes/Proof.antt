@@ -10,10 +10,10 @@ use borrow.Author.Needs.{needs}
 use Rattle.bits.specs.Sums.{sumBelow}
 use Rattle.bits.specs.Digits.{dot}
 use Rattle.bits.proofs.Sums.{sum-more}
-use Rattle.majority.specs.Ballot.{parities}
+use Rattle.ballot.specs.Ballot.{parities}
 use Rattle.majority.proofs.Voting.{ones-of-common}
-use Rattle.majority.proofs.ballot.sorted_votes.Statement.{statement}
-use Rattle.majority.proofs.ballot.sorted_votes.Tie as tie
+use Rattle.ballot.proofs.sorted_votes.Statement.{statement}
+use Rattle.ballot.proofs.sorted_votes.Tie as tie
 
 abbrev Inv-loop : tie.InvT-loop
 Inv-loop alone several i left word ones₀ r₀ ones r = (r ≤ left) × (ones ≤ 32 + r) × (ones ≡ dot alone word + parities several (i * 16) r word)

@@ -2,9 +2,9 @@ use Prim.Native.Nat.{_%_}
 use mathlib.Core.Path.{refl, ap}
 use native.Mathlib.Omega.{arith}
 use lib.Bits.{and-lt}
 use Rattle.majority.proofs.Voting.{ones-of-common}
-use Rattle.majority.proofs.ballot.parity.Statement.{statement}
-use Rattle.majority.proofs.ballot.parity.Tie as tie
+use Rattle.ballot.proofs.parity.Statement.{statement}
+use Rattle.ballot.proofs.parity.Tie as tie
 
 returns : tie.Need-returns
 returns c = let a = c .args in ap (λ n. n % 2) (ones-of-common (a .mask) (a .word) refl (and-lt 32 (a .mask) (a .word) (omega arith) (omega arith)))

@@ -5,8 +5,8 @@ ghost use mathlib.Core.Bool.{true};
 ghost use Prim.Native.Nat.{_+_, _*_, _%_, _<_, _≤_};
 ghost use lib.ListN.{length};
 ghost use Rattle.bits.specs.Digits.{dot};
-ghost use Rattle.majority.specs.Ballot.{Joins, parities, decideSorted, Sorted, SortedStream};
-use crate::more_than_half;
+ghost use Rattle.ballot.specs.Ballot.{Joins, parities, decideSorted, Sorted, SortedStream};
+use majority::more_than_half;
 
 // The checks of each information stream on one syndrome register, sorted.
 pub struct Ballot {

@@ -6,10 +6,10 @@ use native.Mathlib.Omega.{arith}
 use borrow.Author.Needs.{needs}
 use Rattle.bits.specs.Sums.{sumBelow}
 use Rattle.bits.specs.Digits.{fromDigits, shiftUp}
-use Rattle.majority.specs.Ballot.{decideSorted}
-use Rattle.majority.proofs.Sorting.{errorSorted, error-sorted, error-more}
-use Rattle.majority.proofs.ballot.decide_sorted.Statement.{statement}
-use Rattle.majority.proofs.ballot.decide_sorted.Tie as tie
+use Rattle.ballot.specs.Ballot.{decideSorted}
+use Rattle.ballot.proofs.Sorting.{errorSorted, error-sorted, error-more}
+use Rattle.ballot.proofs.decide_sorted.Statement.{statement}
+use Rattle.ballot.proofs.decide_sorted.Tie as tie
 
 abbrev Inv-loop : tie.InvT-loop
 Inv-loop counts alone several left word k streams errors₀ i₀ errors i = (i ≤ streams) × (errors ≡ fromDigits i (errorSorted counts alone several left word))

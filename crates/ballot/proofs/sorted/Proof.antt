@@ -4,10 +4,10 @@ use mathlib.Core.Path.{_≡_, refl, _∙_}
 use native.Mathlib.Omega.{arith}
 use lib.ListN.{length, length-set}
 use borrow.Author.Needs.{needs}
-use Rattle.majority.specs.Ballot.{Sorted}
-use Rattle.majority.proofs.Sorting.{no-stream, stream-more}
-use Rattle.majority.proofs.ballot.sorted.Statement.{statement}
-use Rattle.majority.proofs.ballot.sorted.Tie as tie
+use Rattle.ballot.specs.Ballot.{Sorted}
+use Rattle.ballot.proofs.Sorting.{no-stream, stream-more}
+use Rattle.ballot.proofs.sorted.Statement.{statement}
+use Rattle.ballot.proofs.sorted.Tie as tie
 
 abbrev Inv-loop : tie.InvT-loop
 Inv-loop counts checks k streams alone₀ several₀ left₀ i₀ alone several left i =

@@ -4,10 +4,10 @@ use mathlib.Core.Logic.{⊎-elim}
 use native.Mathlib.Nat.{le-antisymm}
 use native.Mathlib.Omega.{arith}
 use borrow.Author.Needs.{needs}
-use Rattle.majority.specs.Ballot.{SortedStream}
-use Rattle.majority.proofs.Sorting.{none-sorted, joined, listed}
-use Rattle.majority.proofs.ballot.sorted_stream.Statement.{statement}
-use Rattle.majority.proofs.ballot.sorted_stream.Tie as tie
+use Rattle.ballot.specs.Ballot.{SortedStream}
+use Rattle.ballot.proofs.Sorting.{none-sorted, joined, listed}
+use Rattle.ballot.proofs.sorted_stream.Statement.{statement}
+use Rattle.ballot.proofs.sorted_stream.Tie as tie
 
 abbrev Inv-loop : tie.InvT-loop
 Inv-loop checks i count several₀ alone₀ left₀ q₀ several alone left q = (q ≤ count) × SortedStream checks i q several₀ several alone left

@@ -1,0 +1,4 @@
+-- the checks sorted
+pub mod Sorting
+-- too few syndromes for a vote
+pub mod FewOnes
