@@ -1,6 +1,6 @@
 -- The loop that hands frames out, one turn of it, and its end: the frames handed out are the rule's.
-use Prim.Native.Nat.{ℕ, _+_, _-_, _^_, _≤_, _<_}
-use mathlib.Core.Path.{_≡_, refl, sym, ap, _∙_}
+use Prim.Native.Nat.{ℕ, suc, _+_, _-_, _^_, _≤_, _<_}
+use mathlib.Core.Path.{_≡_, refl, sym, ap, _∙_, subst}
 use mathlib.Core.Logic.{⊎-elim}
 use mathlib.Core.List.{List, _++_}
 use native.Mathlib.Numerals.{add-one}
@@ -12,7 +12,7 @@ use Rattle.code.specs.Guarantees.{Guarantees}
 use Rattle.code.specs.declared.Card.{Card}
 use Rattle.majority.specs.Rule.{decided, corrected, decoded}
 use Rattle.burst.specs.Registers.{Registers, registers, HasSums, written, TakenIn, takenOut, Corrected, NoneFrom, correctedBy}
-use Rattle.burst.specs.Held.{With, Tables, cardWith, Carried, Handing, HandedOut, AllHandedOut, AllHandedFrom}
+use Rattle.burst.specs.Held.{Before, With, Tables, cardWith, Carried, Handing, HandedOut, AllHandedOut, AllHandedFrom}
 use Rattle.burst.proofs.Following.{taken-in}
 use Rattle.burst.proofs.Waiting.{start}
 use Rattle.burst.proofs.Deciding.{decided-small, fed-back, handed-out}
@@ -39,22 +39,23 @@ module _ {sums counts checks syndromes after : List ℕ} {k p errors : ℕ} (C :
 
 -- one frame more, and the frame m before it handed out
 module _ (c : Card) (G : Guarantees c) (sums : List ℕ) (S : HasSums (c .generators) (c .k) (c .p) (2 ^ c .k) sums) (frames : List ℕ) where
-  pub hand-turn : (t v : ℕ) (output₀ : List ℕ) {now taken : Registers} {output after : List ℕ} {held errors : ℕ}
-      → c .m ≤ t → t < length frames → length frames ≤ length output₀ + c .m
-      → TakenIn sums (c .k) (c .p) (c .m) (getD frames t 0) now taken held
+  pub hand-turn : (u v : ℕ) (output₀ : List ℕ) {now taken : Registers} {output after : List ℕ} {held errors : ℕ}
+      → u + c .m < length frames → length frames ≤ length output₀ + c .m
+      → TakenIn sums (c .k) (c .p) (c .m) (getD frames (u + c .m) 0) now taken held
       → Corrected sums (c .counts) (c .checks) (taken .syndromes) (c .k) (c .p) after errors
-      → v ≡ correctedBy (getD frames (t - c .m) 0) (c .k) errors
-      → Handing c frames output₀ t now output
-      → Handing c frames output₀ (t + 1) (registers (taken .coming) after) (set output (t - c .m) v)
-  hand-turn t v output₀ {now = now} {taken = taken} {output = output} {after = after} {errors = errors} hm ht ho T C q handing =
+      → v ≡ correctedBy (getD frames u 0) (c .k) errors
+      → Handing c frames output₀ u now output
+      → Handing c frames output₀ (u + 1) (registers (taken .coming) after) (set output u v)
+  hand-turn u v output₀ {now = now} {taken = taken} {output = output} {after = after} {errors = errors} ht ho T C q handing =
       let m = c .m in
+      let t = u + m in
       let W : With c frames t taken = taken-in c G sums S frames t (getD frames t 0) refl now (handing .0) T in
       let f = corrected c frames (decided c frames (length frames - m)) in
-      let n : t - m + 1 ≡ t + 1 - m = omega arith in (
-        rw add-one (fed-back c G frames t taken W hm sums S after errors C),
-        part-step f output₀ (t - m) output v (omega arith) (handing .1)
-            (q ∙ handed-out c G frames t taken W hm sums S after errors C (length frames - m) (omega arith))
-            ∙ ap (λ x. written x f output₀) n,
+      let e : t - m ≡ u = omega arith in
+      let n : suc (u + m) ≡ u + 1 + m = omega arith in (
+        subst (λ x. Before c frames x (registers (taken .coming) after)) n (fed-back c G frames t taken W (omega arith) sums S after errors C),
+        part-step f output₀ u output v (omega arith) (handing .1)
+            (q ∙ rw e at (handed-out c G frames t taken W (omega arith) sums S after errors C (length frames - m) (omega arith))),
       )
 
 module _ (tables : Tables) (frames : List ℕ) where
@@ -69,14 +70,12 @@ module _ (tables : Tables) (frames : List ℕ) where
       second g e number G output₀ (same ∙ sym l) (first g e number G output₀ same handing)
 
   -- all that a burst hands out, from registers that were ready for the frame of time m
-  pub all-from : {output output' : List ℕ} {filled after : Registers} → HandedOut tables frames (tables .m) (length frames) filled after output output'
+  pub all-from : {output output' : List ℕ} {filled after : Registers} → HandedOut tables frames 0 (length frames - tables .m) filled after output output'
       → AllHandedFrom filled tables frames output output'
   unfolding decoded upTo
-  all-from {output} handed g e number G B =
-      let m = tables .m in
-      let z : m - m ≡ 0 = omega arith in
-      let c = cardWith number g tables in
-      handed g e number G output refl (B, sym (ap (λ n. written n (corrected c frames (decided c frames (length frames - m))) output) z)) .1
+  all-from {output} {filled = filled} handed g e number G B =
+      let z : tables .m ≡ 0 + tables .m = omega arith in
+      handed g e number G output refl (subst (λ t. Before (cardWith number g tables) frames t filled) z B, refl) .1
 
   -- a whole burst, from registers of zeros
   pub all-handed : (output : List ℕ) {output' : List ℕ} {filled : Registers} → Carried tables frames (tables .m) (registers (replicate 8 0) (replicate 8 0)) filled

@@ -11,7 +11,7 @@ use lib.ListN.{length, getD, set, drop, replicate}
 use lib.Bits.{bitXor, xor-lt, block-half, xor-comm, xor-zero-r, xor-shifted, xor-block, xor-shr, xor-mod}
 use lib.Count.{ones}
 use lib.Dec.{ltb}
-use lib.Pow.{pow-pos, pow-mono, split, high, low, shl-exact, mod-mod-pow, field}
+use lib.Pow.{pow-pos, pow-mono, shl-shr, split, high, low, shl-exact, mod-mod-pow, field}
 use Rattle.bits.specs.Sums.{sumBelow, xorBelow, upTo}
 use Rattle.bits.specs.Digits.{bit, shiftUp}
 use Rattle.bits.proofs.Cases.{cond-le}
@@ -180,56 +180,69 @@ sorted-small counts alone several left word k e =
 
 module _ (number : ℕ) (g counts checks : List ℕ) (k m : ℕ) (G : Guarantees (cardFrom number g counts checks k 1 m))
     (sums : List ℕ) (S : HasSums g k 1 (2 ^ k) sums) (frames : List ℕ) where
+  -- what the errors would put in, a place for m lower, is their generators
+  errors-out : (puts : List ℕ) → HasPuts sums k m (2 ^ (k + 1)) puts → (errors : ℕ) → errors < 2 ^ k → getD puts errors 0 / 2 ^ m ≡ getD sums (errors * 8) 0
+  unfolding putOf
+  errors-out puts P errors l =
+      let w : errors < 2 ^ (k + 1) = lt-of-lt-of-le l (pow-mono {i = k} {j = k + 1} (omega arith)) in
+      ap (λ x. x / 2 ^ m) (P errors w)
+      ∙ shl-shr _ m
+      ∙ ap₂ (λ x q. bitXor (getD sums (x * 8) 0) (q % 2)) (mod-eq-of-lt l) (div-eq-of-lt l)
+      ∙ xor-zero-r _
+
   -- the syndromes that the next word holds are those of this one without the errors, and the parity digits to come are the same
-  fed-into : {word next errors : ℕ} → errors ≡ decideBy counts checks (inOne m word .syndromes) k 1
-      → ((errors ≡ 0) × (next ≡ word)) ⊎ (next ≡ bitXor word (getD sums (errors * 8) 0))
+  fed-into : (puts : List ℕ) → HasPuts sums k m (2 ^ (k + 1)) puts → {word next errors : ℕ} → errors ≡ decideBy counts checks (inOne m word .syndromes) k 1
+      → ((errors ≡ 0) × (next ≡ word)) ⊎ (next ≡ bitXor word (getD puts errors 0 / 2 ^ m))
       → (next / 2 ^ (m + 1) ≡ word / 2 ^ (m + 1)) × Corrected sums counts checks (inOne m word .syndromes) k 1 (inOne m next .syndromes) errors
   unfolding takenOut upTo
-  fed-into {word} {next} {errors} e (inl w) = (
+  fed-into puts P {word} {next} {errors} e (inl w) = (
     ap (λ x. x / 2 ^ (m + 1)) (w .1),
     record { errors-are = e; after-is = inl (w .0, ap (λ x. x % 2 ^ (m + 1) ∷ replicate 7 0) (w .1)) },
   )
-  fed-into {word} {next} {errors} e (inr w) =
+  fed-into puts P {word} {next} {errors} e (inr w) =
       let s = getD sums (errors * 8) 0 in
-      let l : s < 2 ^ (m + 1) =
-      sum-within (cardFrom number g counts checks k 1 m) G sums S errors (rw e (decide-lt-k counts checks (inOne m word .syndromes) k 1 (G .k-most))) in (
-        ap (λ x. x / 2 ^ (m + 1)) w ∙ above-same word s m l,
+      let small : errors < 2 ^ k = rw e (decide-lt-k counts checks (inOne m word .syndromes) k 1 (G .k-most)) in
+      let l : s < 2 ^ (m + 1) = sum-within (cardFrom number g counts checks k 1 m) G sums S errors small in
+      let w' : next ≡ bitXor word s = w ∙ ap (bitXor word) (errors-out puts P errors small) in (
+        ap (λ x. x / 2 ^ (m + 1)) w' ∙ above-same word s m l,
         record {
           errors-are = e;
           after-is = inr (ap (λ x. x ∷ replicate 7 0)
-              (ap (λ x. x % 2 ^ (m + 1)) w ∙ within-taken word s m l ∙ ap (λ n. bitXor (word % 2 ^ (m + 1)) (getD sums n 0)) (sym (add-zero (errors * 8)))));
+              (ap (λ x. x % 2 ^ (m + 1)) w' ∙ within-taken word s m l ∙ ap (λ n. bitXor (word % 2 ^ (m + 1)) (getD sums n 0)) (sym (add-zero (errors * 8)))));
         },
       )
 
-  pub word-turn : (t v word : ℕ) (output₀ : List ℕ) {taken next errors : ℕ} {output : List ℕ}
-      → m ≤ t → t < length frames → length frames ≤ length output₀ + m
-      → taken ≡ bitXor (word / 2) (putOf sums k m (getD frames t 0))
-      → errors ≡ decideBy counts checks (inOne m taken .syndromes) k 1
-      → ((errors ≡ 0) × (next ≡ taken)) ⊎ (next ≡ bitXor taken (getD sums (errors * 8) 0))
-      → v ≡ correctedBy (getD frames (t - m) 0) k errors
-      → Handing (cardFrom number g counts checks k 1 m) frames output₀ t (inOne m word) output
-      → Handing (cardFrom number g counts checks k 1 m) frames output₀ (t + 1) (inOne m next) (set output (t - m) v)
-  word-turn t v word output₀ {taken} {next} {errors} {output} hm ht ho e d w q handing =
-      let c = cardFrom number g counts checks k 1 m in
-      let both = fed-into d w in
-      subst (λ x. Handing c frames output₀ (t + 1) (registers (x ∷ replicate 7 0) (inOne m next .syndromes)) (set output (t - m) v)) (sym (both .0))
-      (hand-turn c G sums S frames t v output₀ hm ht ho (taken-into sums k m (getD frames t 0) word (G .m-most) e) (both .1) q handing)
+  module _ (puts : List ℕ) (P : HasPuts sums k m (2 ^ (k + 1)) puts) where
+    pub word-turn : (u v word : ℕ) (output₀ : List ℕ) {taken next errors : ℕ} {output : List ℕ}
+        → u + m < length frames → length frames ≤ length output₀ + m
+        → taken ≡ bitXor (word / 2) (getD puts (getD frames (u + m) 0 % 2 ^ (k + 1)) 0)
+        → errors ≡ decideBy counts checks (inOne m taken .syndromes) k 1
+        → ((errors ≡ 0) × (next ≡ taken)) ⊎ (next ≡ bitXor taken (getD puts errors 0 / 2 ^ m))
+        → v ≡ correctedBy (getD frames u 0) k errors
+        → Handing (cardFrom number g counts checks k 1 m) frames output₀ u (inOne m word) output
+        → Handing (cardFrom number g counts checks k 1 m) frames output₀ (u + 1) (inOne m next) (set output u v)
+    word-turn u v word output₀ {taken} {next} {errors} {output} ht ho e d w q handing =
+        let c = cardFrom number g counts checks k 1 m in
+        let both = fed-into puts P d w in
+        subst (λ x. Handing c frames output₀ (u + 1) (registers (x ∷ replicate 7 0) (inOne m next .syndromes)) (set output u v)) (sym (both .0))
+        (hand-turn c G sums S frames u v output₀ ht ho
+        (taken-into sums k m (getD frames (u + m) 0) word (G .m-most) (put-in sums puts k m P word (getD frames (u + m) 0) e)) (both .1) q handing)
 
-  -- nothing is decided to be wrong while too few syndromes are 1
-  few-held : (held least : ℕ) → held < 2 ^ 32 → AtLeast counts k least → 2 * ones held ≤ least → decideBy counts checks (held ∷ replicate 7 0) k 1 ≡ 0
-  unfolding sumBelow count
-  few-held held least hh counted few = decide-few (cardFrom number g counts checks k 1 m) G (held ∷ replicate 7 0) (λ i l. omega (arith, few, counted i l, ones-sum 32 held hh))
+    -- nothing is decided to be wrong while too few syndromes are 1
+    few-held : (held least : ℕ) → held < 2 ^ 32 → AtLeast counts k least → 2 * ones held ≤ least → decideBy counts checks (held ∷ replicate 7 0) k 1 ≡ 0
+    unfolding sumBelow count
+    few-held held least hh counted few = decide-few (cardFrom number g counts checks k 1 m) G (held ∷ replicate 7 0) (λ i l. omega (arith, few, counted i l, ones-sum 32 held hh))
 
-  pub word-through : (t v word least : ℕ) (output₀ : List ℕ) {next : ℕ} {output : List ℕ}
-      → m ≤ t → t < length frames → length frames ≤ length output₀ + m
-      → next ≡ bitXor (word / 2) (putOf sums k m (getD frames t 0))
-      → AtLeast counts k least → 2 * ones (next % 2 ^ (m + 1)) ≤ least
-      → v ≡ correctedBy (getD frames (t - m) 0) k 0
-      → Handing (cardFrom number g counts checks k 1 m) frames output₀ t (inOne m word) output
-      → Handing (cardFrom number g counts checks k 1 m) frames output₀ (t + 1) (inOne m next) (set output (t - m) v)
-  word-through t v word least output₀ {next} hm ht ho e counted few q handing =
-      let l : next % 2 ^ (m + 1) < 2 ^ 32 = lt-of-lt-of-le (mod-lt next (pow-pos (m + 1))) (pow-mono {i = m + 1} {j = 32} (omega (arith, G .m-most))) in
-      word-turn t v word output₀ hm ht ho e (sym (few-held (next % 2 ^ (m + 1)) least l counted few)) (inl (refl, refl)) q handing
+    pub word-through : (u v word least : ℕ) (output₀ : List ℕ) {next : ℕ} {output : List ℕ}
+        → u + m < length frames → length frames ≤ length output₀ + m
+        → next ≡ bitXor (word / 2) (getD puts (getD frames (u + m) 0 % 2 ^ (k + 1)) 0)
+        → AtLeast counts k least → 2 * ones (next % 2 ^ (m + 1)) ≤ least
+        → v ≡ correctedBy (getD frames u 0) k 0
+        → Handing (cardFrom number g counts checks k 1 m) frames output₀ u (inOne m word) output
+        → Handing (cardFrom number g counts checks k 1 m) frames output₀ (u + 1) (inOne m next) (set output u v)
+    word-through u v word least output₀ {next} ht ho e counted few q handing =
+        let l : next % 2 ^ (m + 1) < 2 ^ 32 = lt-of-lt-of-le (mod-lt next (pow-pos (m + 1))) (pow-mono {i = m + 1} {j = 32} (omega (arith, G .m-most))) in
+        word-turn u v word output₀ ht ho e (sym (few-held (next % 2 ^ (m + 1)) least l counted few)) (inl (refl, refl)) q handing
 
 -- ---- a card whose parity streams are one
 pub of-one-parity : (g counts checks sums : List ℕ) (k m : ℕ) (frames output : List ℕ) {p : ℕ} {output' : List ℕ} → p ≡ 1 → HasSums g k p (2 ^ k) sums

@@ -59,15 +59,15 @@ EveryCardWith T P = (generators : List ℕ) → HasSums generators (T .k) (T .p)
 abbrev pub Carried : Tables → List ℕ → ℕ → Registers → Registers → Type 0
 Carried T frames t before after = EveryCardWith T (λ c. Before c frames 0 before → Before c frames t after)
 
--- before the frame of time t: the registers are ready for it, and the frames m before those so far stand in front of what the output was
+-- with u frames handed out: the registers are ready for the frame m later, and those stand in front of what the output was
 abbrev pub Handing : Card → List ℕ → List ℕ → ℕ → Registers → List ℕ → Type 0
-Handing c frames output₀ t r output =
-    Before c frames t r × (output ≡ written (t - c .m) (corrected c frames (decided c frames (length frames - c .m))) output₀)
+Handing c frames output₀ u r output =
+    Before c frames (u + c .m) r × (output ≡ written u (corrected c frames (decided c frames (length frames - c .m))) output₀)
 
--- what was so before the frame of time s is so before that of time t now, whatever the output was at first
+-- what was so with s frames handed out is so with u now, whatever the output was at first
 abbrev pub HandedOut : Tables → List ℕ → ℕ → ℕ → Registers → Registers → List ℕ → List ℕ → Type 0
-HandedOut T frames s t before after output output' =
-    EveryCardWith T (λ c. (output₀ : List ℕ) → length output₀ ≡ length output → Handing c frames output₀ s before output → Handing c frames output₀ t after output')
+HandedOut T frames s u before after output output' =
+    EveryCardWith T (λ c. (output₀ : List ℕ) → length output₀ ≡ length output → Handing c frames output₀ s before output → Handing c frames output₀ u after output')
 
 -- the frames of a whole burst are handed out
 abbrev pub AllHandedOut : Tables → List ℕ → List ℕ → List ℕ → Type 0
@@ -78,6 +78,6 @@ abbrev pub AllHandedFrom : Registers → Tables → List ℕ → List ℕ → Li
 AllHandedFrom filled T frames output output' =
     EveryCardWith T (λ c. Before c frames (c .m) filled → output' ≡ decoded c frames ++ drop (length frames - c .m) output)
 
--- every table of sums from which these are, what each frame puts into the word of one parity stream, and every counts and checks beside it
-abbrev pub EveryTables : List ℕ → ℕ → ℕ → (Tables → Type 0) → Type 0
-EveryTables puts k m P = (sums counts checks : List ℕ) → HasPuts sums k m (2 ^ (k + 1)) puts → P (tables sums counts checks k 1 m)
+-- every tables with these counts, of one parity stream, for which this is what each frame puts into the word
+abbrev pub EveryTables : List ℕ → List ℕ → ℕ → ℕ → (Tables → Type 0) → Type 0
+EveryTables puts counts k m P = (sums checks : List ℕ) → HasPuts sums k m (2 ^ (k + 1)) puts → P (tables sums counts checks k 1 m)

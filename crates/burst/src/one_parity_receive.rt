@@ -62,21 +62,22 @@ fn syndromes(word: u64, m: usize) -> u32
     (word % (2 << m)) as u32
 }
 
-// Errors fed back: their generators taken out of the syndromes. The branch keeps the table off the way from one frame to the next.
-fn fed_back(word: u64, sums: &[u32; 128], errors: u32) -> u64
-    requires { ⌜ errors < 16 ⌝ }
-    ensures { λ r. ⌜ ((errors ≡ 0) × (r ≡ word)) ⊎ (r ≡ bitXor word (getD (now (sums .entry)) (errors * 8) 0)) ⌝ }
+// Errors fed back: their generators taken out of the syndromes. A frame of these errors would put them in from place m on. The branch keeps the table
+// off the way from one frame to the next.
+fn fed_back(word: u64, puts: &[u64; 32], m: usize, errors: u32) -> u64
+    requires { ⌜ (m ≤ 31) × (errors < 16) ⌝ }
+    ensures { λ r. ⌜ ((errors ≡ 0) × (r ≡ word)) ⊎ (r ≡ bitXor word (getD (now (puts .entry)) errors 0 / 2 ^ m)) ⌝ }
 {
     if errors == 0 {
         return word;
     }
-    word ^ long(sums[bits::index(errors) * 8])
+    word ^ puts[bits::index(errors)] >> m
 }
 
 // The first m frames, for which nothing is handed out.
 fn fill(puts: &[u64; 32], k: usize, m: usize, input: &[u8]) -> u64
     requires { ⌜ (k ≤ 4) × (m ≤ 31) × (m ≤ length (now input)) ⌝ }
-    ensures { λ r. ⌜ EveryTables (now (puts .entry)) k m (λ T. Carried T (now (input .entry)) m (inOne m 0) (inOne m r)) ⌝ }
+    ensures { λ r. ⌜ ((counts : List ℕ) → EveryTables (now (puts .entry)) counts k m (λ T. Carried T (now (input .entry)) m (inOne m 0) (inOne m r))) ⌝ }
 {
     let mut word: u64 = 0;
     let mut t = 0;
@@ -112,13 +113,13 @@ fn enough(held: u32, least: usize) -> bool
     least < 2 * bits::index(u32::count_ones(held))
 }
 
-// How far a loop came: the frame that it takes in next, and the word before it.
+// How far a loop came: the frame that is handed out next, and the word before the frame m after it.
 struct Reached {
     word: u64,
-    t: usize,
+    u: usize,
 }
 
-// While too few syndromes are 1 for any majority there is no vote: the frames m before are handed out as they came.
+// While too few syndromes are 1 for any majority there is no vote: the frames are handed out as they came.
 fn hand_through(
     before: u64,
     puts: &[u64; 32],
@@ -129,61 +130,56 @@ fn hand_through(
     input: &[u8],
     output: &mut [u8],
 ) -> Reached
-    requires { ⌜ (k ≤ 4) × (m ≤ 31) × (m ≤ from) × (from ≤ length (now input)) ⌝ }
-    requires { ⌜ length (now input) ≤ length (now output) + m ⌝ }
-    ensures { λ r. ⌜ (from ≤ r .t) × (r .t ≤ length (now (input .entry))) ⌝ }
-    ensures { λ r. ⌜ EveryTables (now (puts .entry)) k m (λ T. AtLeast (T .counts) k least → HandedOut T (now (input .entry)) from (r .t) (inOne m before) (inOne m (r .word)) (now (output .entry)) (now (output .exit))) ⌝ }
+    requires { ⌜ (k ≤ 4) × (m ≤ 31) × (from + m ≤ length (now input)) × (length (now input) ≤ length (now output) + m) ⌝ }
+    ensures { λ r. ⌜ (from ≤ r .u) × (r .u + m ≤ length (now (input .entry))) ⌝ }
+    ensures { λ r. ⌜ ((counts : List ℕ) → EveryTables (now (puts .entry)) counts k m
+        (λ T. AtLeast (T .counts) k least → HandedOut T (now (input .entry)) from (r .u) (inOne m before) (inOne m (r .word)) (now (output .entry)) (now (output .exit)))) ⌝ }
 {
+    let end = input.len() - m;
     let mut word = before;
-    let mut t = from;
-    while t < input.len() {
-        let next = taken_in(word, puts, k, input[t]);
+    let mut u = from;
+    while u < end {
+        let next = taken_in(word, puts, k, input[u + m]);
         if enough(syndromes(next, m), least) {
-            return Reached { word, t };
+            return Reached { word, u };
         }
-        let u = t - m;
         output[u] = corrected(input[u], k, 0);
         word = next;
-        t += 1;
+        u += 1;
     }
-    Reached { word, t }
+    Reached { word, u }
 }
 
-// One frame taken in, the errors of the frame m before it decided and fed back, and that frame handed out with them corrected.
+// The frame m later taken in, the errors of this one decided and fed back, and it is handed out with them corrected.
 fn hand_corrected<'a>(
     before: u64,
     puts: &[u64; 32],
-    sums: &[u32; 128],
     counts: &'a [usize; 4],
     alone: &'a [u32; 4],
     several: &'a [u32; 64],
     left: &'a [usize; 4],
     k: usize,
     m: usize,
-    t: usize,
+    u: usize,
     input: &[u8],
     output: &mut [u8],
 ) -> u64
-    requires { ⌜ (k ≤ 4) × (m ≤ 31) × (m ≤ t) × (t < length (now input)) ⌝ }
-    requires { ⌜ length (now input) ≤ length (now output) + m ⌝ }
-    ensures { λ r. ⌜ ((checks : List ℕ) → HasPuts (now (sums .entry)) k m (2 ^ (k + 1)) (now (puts .entry))
-        → Sorted (now (counts .entry)) checks k (now (alone .entry)) (now (several .entry)) (now (left .entry))
-        → HandedOut (tables (now (sums .entry)) (now (counts .entry)) checks k 1 m) (now (input .entry)) t (t + 1) (inOne m before) (inOne m r)
-        (now (output .entry)) (now (output .exit))) ⌝ }
+    requires { ⌜ (k ≤ 4) × (m ≤ 31) × (u + m < length (now input)) × (length (now input) ≤ length (now output) + m) ⌝ }
+    ensures { λ r. ⌜ EveryTables (now (puts .entry)) (now (counts .entry)) k m
+        (λ T. Sorted (T .counts) (T .checks) k (now (alone .entry)) (now (several .entry)) (now (left .entry))
+        → HandedOut T (now (input .entry)) u (u + 1) (inOne m before) (inOne m r) (now (output .entry)) (now (output .exit))) ⌝ }
 {
-    let word = taken_in(before, puts, k, input[t]);
+    let word = taken_in(before, puts, k, input[u + m]);
     let errors = decide_sorted(counts, alone, several, left, syndromes(word, m), k);
-    let u = t - m;
     output[u] = corrected(input[u], k, errors);
-    fed_back(word, sums, errors)
+    fed_back(word, puts, m, errors)
 }
 
-// For each frame after the first m the one m before it, corrected.
+// Each frame but the last m, corrected.
 fn hand_out<'a>(
     filled: u64,
     puts: &[u64; 32],
     least: usize,
-    sums: &[u32; 128],
     counts: &'a [usize; 4],
     alone: &'a [u32; 4],
     several: &'a [u32; 64],
@@ -193,37 +189,35 @@ fn hand_out<'a>(
     input: &[u8],
     output: &mut [u8],
 )
-    requires { ⌜ (k ≤ 4) × (m ≤ 31) ⌝ }
-    requires { ⌜ (m ≤ length (now input)) × (length (now input) ≤ length (now output) + m) ⌝ }
-    ensures { λ r. ⌜ ((checks : List ℕ) → HasPuts (now (sums .entry)) k m (2 ^ (k + 1)) (now (puts .entry))
-        → Sorted (now (counts .entry)) checks k (now (alone .entry)) (now (several .entry)) (now (left .entry))
-        → AtLeast (now (counts .entry)) k least
-        → AllHandedFrom (inOne m filled) (tables (now (sums .entry)) (now (counts .entry)) checks k 1 m) (now (input .entry)) (now (output .entry)) (now (output .exit))) ⌝ }
+    requires { ⌜ (k ≤ 4) × (m ≤ 31) × (m ≤ length (now input)) × (length (now input) ≤ length (now output) + m) ⌝ }
+    ensures { λ r. ⌜ EveryTables (now (puts .entry)) (now (counts .entry)) k m
+        (λ T. Sorted (T .counts) (T .checks) k (now (alone .entry)) (now (several .entry)) (now (left .entry)) → AtLeast (T .counts) k least
+        → AllHandedFrom (inOne m filled) T (now (input .entry)) (now (output .entry)) (now (output .exit))) ⌝ }
 {
+    let end = input.len() - m;
     let mut word = filled;
-    let mut t = m;
-    while t < input.len() {
-        let reached = hand_through(word, puts, least, k, m, t, input, output);
+    let mut u = 0;
+    while u < end {
+        let reached = hand_through(word, puts, least, k, m, u, input, output);
         word = reached.word;
-        t = reached.t;
-        if t == input.len() {
+        u = reached.u;
+        if u == end {
             return;
         }
         word = hand_corrected(
             word,
             puts,
-            sums,
             counts,
             alone,
             several,
             left,
             k,
             m,
-            t,
+            u,
             input,
             output,
         );
-        t += 1;
+        u += 1;
     }
 }
 
@@ -249,7 +243,6 @@ pub(crate) fn receive<'a>(
         filled,
         &puts,
         least,
-        sums,
         counts,
         &sorted_checks.alone,
         &sorted_checks.several,

@@ -32,7 +32,7 @@ fn fill(
     }
 }
 
-// For each frame after the first m the one m before it, corrected.
+// Each frame but the last m, corrected.
 fn hand_out<'a>(
     syndromes: &mut [u32; 8],
     coming: &mut [u32; 8],
@@ -51,13 +51,13 @@ fn hand_out<'a>(
     ensures { λ r. ⌜ AllHandedFrom (registers (now (coming .entry)) (now (syndromes .entry))) (tables (now (sums .entry)) (now (counts .entry)) (now (checks .entry)) k p m)
         (now (input .entry)) (now (output .entry)) (now (output .exit)) ⌝ }
 {
-    let mut t = m;
-    while t < input.len() {
-        let held = take_in(syndromes, coming, sums, k, p, m, input[t]);
+    let end = input.len() - m;
+    let mut u = 0;
+    while u < end {
+        let held = take_in(syndromes, coming, sums, k, p, m, input[u + m]);
         let errors = correct(syndromes, held, sums, counts, checks, k, p);
-        let u = t - m;
         output[u] = corrected(input[u], k, errors);
-        t += 1;
+        u += 1;
     }
 }
 

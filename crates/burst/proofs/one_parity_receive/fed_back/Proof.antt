@@ -1,5 +1,8 @@
-use mathlib.Core.Path.{refl}
+use Prim.Native.Nat.{_/_, _^_}
+use mathlib.Core.Path.{refl, ap}
 use mathlib.Core.Logic.{inl, inr}
+use lib.Bits.{bitXor}
+use lib.ListN.{getD}
 use borrow.Author.Needs.{needs}
 use Rattle.burst.proofs.one_parity_receive.fed_back.Statement.{statement}
 use Rattle.burst.proofs.one_parity_receive.fed_back.Tie as tie
@@ -10,29 +13,19 @@ returns c = inl (c .if1 .taken, refl)
 index-requires : tie.Need-index-requires
 index-requires c κs = search needs
 
-mul-long : tie.Need-mul-long
-mul-long c = search needs
+mul-result : tie.Need-mul-result
+mul-result c = search needs
 
-mul-long-2 : tie.Need-mul-long-2
-mul-long-2 c = search needs
+element-copy-out-result : tie.Need-element-copy-out-result
+element-copy-out-result c = search needs
 
-element-copy-out-long : tie.Need-element-copy-out-long
-element-copy-out-long c = search needs
-
-long-requires : tie.Need-long-requires
-long-requires c κs = search needs
+shr-result : tie.Need-shr-result
+shr-result c = search needs
 
 returns-2 : tie.Need-returns-2
-returns-2 c = inr (rw (c .long .ensures .0, c .before .before .index .ensures) refl)
+returns-2 c =
+    let a = c .before .before .before .args in
+    inr (ap (λ i. bitXor (a .word) (getD (a .puts .now) i 0 / 2 ^ a .m)) (c .before .index .ensures))
 
 pub fed-back-spec : {M : Type 1} → statement M
-fed-back-spec =
-    tie.close
-    (tie.spec
-    returns
-    index-requires
-    mul-long
-    mul-long-2
-    element-copy-out-long
-    long-requires
-    returns-2)
+fed-back-spec = tie.close (tie.spec returns index-requires mul-result element-copy-out-result shr-result returns-2)

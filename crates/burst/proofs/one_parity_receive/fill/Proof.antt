@@ -1,6 +1,7 @@
 -- The loop has taken in the frames that it passed.
-use Prim.Native.Nat.{_-_, _≤_}
+use Prim.Native.Nat.{ℕ, _-_, _≤_}
 use mathlib.Core.Path.{_≡_}
+use mathlib.Core.List.{List}
 use native.Mathlib.Nat.{le-antisymm}
 use native.Mathlib.Omega.{arith}
 use lib.ListN.{getD}
@@ -12,13 +13,13 @@ use Rattle.burst.proofs.one_parity_receive.fill.Statement.{statement}
 use Rattle.burst.proofs.one_parity_receive.fill.Tie as tie
 
 abbrev Inv-loop : tie.InvT-loop
-Inv-loop puts k m input word₀ t₀ word t = (t ≤ m) × EveryTables puts k m (λ T. Carried T input t (inOne m 0) (inOne m word))
+Inv-loop puts k m input word₀ t₀ word t = (t ≤ m) × ((counts : List ℕ) → EveryTables puts counts k m (λ T. Carried T input t (inOne m 0) (inOne m word)))
 
 abbrev μ-loop : tie.MeasureT-loop
 μ-loop puts k m input word₀ t₀ word t = m - t
 
 loop-holds : tie.Need-loop-holds Inv-loop μ-loop
-loop-holds c = (omega arith, λ sums counts checks P g e number G B. B)
+loop-holds c = (omega arith, λ counts sums checks P g e number G B. B)
 
 shared-slice-read-taken-in : tie.Need-shared-slice-read-taken-in Inv-loop μ-loop
 shared-slice-read-taken-in c = omega arith
@@ -38,9 +39,9 @@ loop-again c =
     let a = c .before .before .before .before .before .args in
     let f = getD (a .input .now) (l .t) 0 in (
       omega arith,
-      λ sums counts checks P.
+      λ counts sums checks P.
           wait-more (tables sums counts checks (a .k) 1 (a .m)) (a .input .now) (l .t) (omega arith)
-          (taken-into sums (a .k) (a .m) f (l .word) (omega arith) (put-in sums (a .puts .now) (a .k) (a .m) P (l .word) f (c .taken-in .ensures))) (l .inv .1 sums counts checks P),
+          (taken-into sums (a .k) (a .m) f (l .word) (omega arith) (put-in sums (a .puts .now) (a .k) (a .m) P (l .word) f (c .taken-in .ensures))) (l .inv .1 counts sums checks P),
     )
 
 returns : tie.Need-returns Inv-loop μ-loop

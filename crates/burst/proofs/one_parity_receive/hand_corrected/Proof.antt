@@ -1,13 +1,16 @@
 use mathlib.Core.Path.{ap, _∙_}
 use mathlib.Core.List.{_∷_}
 use native.Mathlib.Omega.{arith}
-use lib.ListN.{getD, replicate}
+use lib.ListN.{replicate}
 use Rattle.majority.specs.Voting.{decideBy}
 use Rattle.ballot.proofs.Sorting.{sorted-decides}
-use Rattle.burst.proofs.OneParityReceiving.{put-in, sorted-small, word-turn}
+use Rattle.burst.proofs.OneParityReceiving.{sorted-small, word-turn}
 use borrow.Author.Needs.{needs}
 use Rattle.burst.proofs.one_parity_receive.hand_corrected.Statement.{statement}
 use Rattle.burst.proofs.one_parity_receive.hand_corrected.Tie as tie
+
+add-taken-in : tie.Need-add-taken-in
+add-taken-in c = search needs
 
 shared-slice-read-taken-in : tie.Need-shared-slice-read-taken-in
 shared-slice-read-taken-in c = search needs
@@ -21,9 +24,6 @@ syndromes-requires c κs = search needs
 decide-sorted-requires : tie.Need-decide-sorted-requires
 decide-sorted-requires c κs = search needs
 
-sub-u : tie.Need-sub-u
-sub-u c = search needs
-
 shared-slice-read-corrected : tie.Need-shared-slice-read-corrected
 shared-slice-read-corrected c = search needs
 
@@ -34,7 +34,7 @@ slice-write-output : tie.Need-slice-write-output
 slice-write-output c = search needs
 
 fed-back-requires : tie.Need-fed-back-requires
-fed-back-requires c κs = sorted-small _ _ _ _ _ _ (c .before .before .decide-sorted .ensures)
+fed-back-requires c κs = (omega arith, sorted-small _ _ _ _ _ _ (c .before .before .decide-sorted .ensures))
 
 same-length : tie.Need-same-length
 same-length c = search needs
@@ -43,13 +43,12 @@ returns : tie.Need-returns
 returns c =
     let a = c .before .before .before .before .before .before .before .before .before .args in
     let pre = c .before .before .before .before .before .before .before .before .before .pre in
-    let f = getD (a .input .now) (a .t) 0 in
     let held = c .before .before .before .before .syndromes in
     let word = c .before .before .before .before .before .taken-in in
     let decided = c .before .before .before .decide-sorted in
-    λ checks P sorted g e number G o same handing.
-    word-turn number g (a .counts .now) checks (a .k) (a .m) G (a .sums .now) e (a .input .now) (a .t) (c .before .corrected .result) (a .before) o (pre .0 .2) (pre .0 .3) (omega (arith, pre .1, same))
-    (put-in (a .sums .now) (a .puts .now) (a .k) (a .m) P (a .before) f (word .ensures))
+    λ sums checks P sorted g e number G o same handing.
+    word-turn number g (a .counts .now) checks (a .k) (a .m) G sums e (a .input .now) (a .puts .now) P (a .u) (c .before .corrected .result) (a .before) o (pre .2) (omega (arith, pre .3, same))
+    (word .ensures)
     (decided .ensures
     ∙ sorted-decides (a .counts .now) checks (a .alone .now) (a .several .now) (a .left .now) (held .result) (a .k) sorted
     ∙ ap (λ s. decideBy (a .counts .now) checks (s ∷ replicate 7 0) (a .k) 1) (held .ensures))
@@ -59,11 +58,11 @@ pub hand-corrected-spec : {M : Type 1} → statement M
 hand-corrected-spec =
     tie.close
     (tie.spec
+    add-taken-in
     shared-slice-read-taken-in
     taken-in-requires
     syndromes-requires
     decide-sorted-requires
-    sub-u
     shared-slice-read-corrected
     corrected-requires
     slice-write-output

@@ -1,27 +1,30 @@
 -- The loop has handed out the frames m before those that it passed.
-use Prim.Native.Nat.{ℕ, _+_, _-_, _^_, _≤_}
-use mathlib.Core.List.{List}
+use Prim.Native.Nat.{_+_, _-_, _≤_}
 use mathlib.Core.Path.{_≡_, _∙_}
 use native.Mathlib.Nat.{le-antisymm}
 use native.Mathlib.Omega.{arith}
 use lib.ListN.{length}
 use Rattle.ballot.specs.Ballot.{Sorted}
-use Rattle.burst.specs.Registers.{AtLeast, inOne, HasPuts}
-use Rattle.burst.specs.Held.{Tables, tables, HandedOut}
+use Rattle.burst.specs.Registers.{AtLeast, inOne}
+use Rattle.burst.specs.Held.{tables, HandedOut, EveryTables}
 use Rattle.burst.proofs.HandingOut.{hand-on, all-from}
 use Rattle.burst.proofs.one_parity_receive.hand_out.Statement.{statement}
 use Rattle.burst.proofs.one_parity_receive.hand_out.Tie as tie
 
 abbrev Inv-loop : tie.InvT-loop
-Inv-loop filled puts least sums counts alone several left k m input output₀ word₀ t₀ output word t =
-    (m ≤ t) × (t ≤ length input) × (length output ≡ length output₀)
-    × ((checks : List ℕ) → HasPuts sums k m (2 ^ (k + 1)) puts → Sorted counts checks k alone several left → AtLeast counts k least → HandedOut (tables sums counts checks k 1 m) input m t (inOne m filled) (inOne m word) output₀ output)
+Inv-loop filled puts least counts alone several left k m input output₀ end word₀ u₀ output word u =
+    (u ≤ length input - m) × (length output ≡ length output₀)
+    × EveryTables puts counts k m
+    (λ T. Sorted (T .counts) (T .checks) k alone several left → AtLeast (T .counts) k least → HandedOut T input 0 u (inOne m filled) (inOne m word) output₀ output)
 
 abbrev μ-loop : tie.MeasureT-loop
-μ-loop filled puts least sums counts alone several left k m input output₀ word₀ t₀ output word t = length input - t
+μ-loop filled puts least counts alone several left k m input output₀ end word₀ u₀ output word u = length input - m - u
+
+sub-end : tie.Need-sub-end Inv-loop μ-loop
+sub-end c = omega arith
 
 loop-holds : tie.Need-loop-holds Inv-loop μ-loop
-loop-holds c = (omega arith, omega arith, omega arith, λ checks P sorted counted g e number G o same handing. handing)
+loop-holds c = (omega arith, omega arith, λ sums checks P sorted counted g e number G o same handing. handing)
 
 hand-through-requires : tie.Need-hand-through-requires Inv-loop μ-loop
 hand-through-requires c κs = omega arith
@@ -34,17 +37,17 @@ returns c =
     let l = c .before .before .before .before .before .before .loop in
     let a = c .before .before .before .before .before .before .before .before .before .args in
     let through = c .before .before .before .hand-through in
-    let T : List ℕ → Tables = λ checks. tables (a .sums .now) (a .counts .now) checks (a .k) 1 (a .m) in
-    λ checks P sorted counted.
-    all-from (T checks) (a .input .now)
-    (rw (c .if1 .taken) at (hand-on (T checks) (a .input .now) (a .m) (l .t) (through .result .t) (inOne (a .m) (a .filled)) (inOne (a .m) (l .word)) (inOne (a .m) (through .result .word)) (a .output .now) (l .output) _ (l .inv .2)
-    (l .inv .3 checks P sorted counted) (through .ensures .1 (a .sums .now) (a .counts .now) checks P counted)))
+    λ sums checks P sorted counted.
+    let T = tables sums (a .counts .now) checks (a .k) 1 (a .m) in
+    all-from T (a .input .now)
+    (rw (c .if1 .taken) at (hand-on T (a .input .now) 0 (l .u) (through .result .u) (inOne (a .m) (a .filled)) (inOne (a .m) (l .word)) (inOne (a .m) (through .result .word)) (a .output .now) (l .output) _ (l .inv .1)
+    (l .inv .2 sums checks P sorted counted) (through .ensures .1 (a .counts .now) sums checks P counted)))
 
 hand-corrected-requires : tie.Need-hand-corrected-requires Inv-loop μ-loop
 hand-corrected-requires c κs = omega arith
 
-add-t : tie.Need-add-t Inv-loop μ-loop
-add-t c =
+add-u : tie.Need-add-u Inv-loop μ-loop
+add-u c =
     let known = c .before .before .before .before .before .before .before .before .before .before .before .before in
     let reached = c .before .before .before .before .before .before .before .hand-through .ensures .0 in
     omega (arith, known .before, reached, c .before .before .before .before .if1 .left)
@@ -57,27 +60,26 @@ loop-again c =
     let l = c .before .before .before .before .before .before .before .before .before .before .loop in
     let a = c .before .before .before .before .before .before .before .before .before .before .before .before .before .args in
     let through = c .before .before .before .before .before .before .before .hand-through in
-    let corrected = c .before .before .hand-corrected in
-    let T : List ℕ → Tables = λ checks. tables (a .sums .now) (a .counts .now) checks (a .k) 1 (a .m) in (
+    let corrected = c .before .before .hand-corrected in (
       omega arith,
       omega arith,
-      omega arith,
-      λ checks P sorted counted.
-          hand-on (T checks) (a .input .now) (a .m) (through .result .t) (through .result .t + 1) (inOne (a .m) (a .filled)) (inOne (a .m) (through .result .word)) (inOne (a .m) (corrected .result)) (a .output .now) _ _ (omega arith)
-          (hand-on (T checks) (a .input .now) (a .m) (l .t) (through .result .t) (inOne (a .m) (a .filled)) (inOne (a .m) (l .word)) (inOne (a .m) (through .result .word)) (a .output .now) (l .output) _ (l .inv .2)
-          (l .inv .3 checks P sorted counted) (through .ensures .1 (a .sums .now) (a .counts .now) checks P counted))
-          (corrected .ensures checks P sorted),
+      λ sums checks P sorted counted.
+          let T = tables sums (a .counts .now) checks (a .k) 1 (a .m) in
+          hand-on T (a .input .now) 0 (through .result .u) (through .result .u + 1) (inOne (a .m) (a .filled)) (inOne (a .m) (through .result .word)) (inOne (a .m) (corrected .result)) (a .output .now) _ _ (omega arith)
+          (hand-on T (a .input .now) 0 (l .u) (through .result .u) (inOne (a .m) (a .filled)) (inOne (a .m) (l .word)) (inOne (a .m) (through .result .word)) (a .output .now) (l .output) _ (l .inv .1)
+          (l .inv .2 sums checks P sorted counted) (through .ensures .1 (a .counts .now) sums checks P counted))
+          (corrected .ensures sums checks P sorted),
     )
 
 same-length-2 : tie.Need-same-length-2 Inv-loop μ-loop
-same-length-2 c = c .before .loop .inv .2
+same-length-2 c = c .before .loop .inv .1
 
 returns-2 : tie.Need-returns-2 Inv-loop μ-loop
 returns-2 c =
     let l = c .before .loop in
     let a = c .before .before .before .before .args in
-    let e : l .t ≡ length (a .input .now) = le-antisymm (l .inv .1) (c .loop-test .left) in
-    λ checks P sorted counted. all-from (tables (a .sums .now) (a .counts .now) checks (a .k) 1 (a .m)) (a .input .now) (rw e at (l .inv .3 checks P sorted counted))
+    let e : l .u ≡ length (a .input .now) - a .m = le-antisymm (l .inv .0) (c .loop-test .left) in
+    λ sums checks P sorted counted. all-from (tables sums (a .counts .now) checks (a .k) 1 (a .m)) (a .input .now) (rw e at (l .inv .2 sums checks P sorted counted))
 
 pub hand-out-spec : {M : Type 1} → statement M
 hand-out-spec =
@@ -85,12 +87,13 @@ hand-out-spec =
     (tie.spec
     Inv-loop
     μ-loop
+    sub-end
     loop-holds
     hand-through-requires
     same-length
     returns
     hand-corrected-requires
-    add-t
+    add-u
     loop-less
     loop-again
     same-length-2

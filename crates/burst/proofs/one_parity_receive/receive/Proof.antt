@@ -33,8 +33,8 @@ returns c =
     let filled = c .before .before .before .before .before .before .before .before .before .fill in
     let P = worked-out .before .before .before .puts .ensures in
     all-handed T (a .input .now) (a .output .now)
-    (subst (λ r. Carried T (a .input .now) (a .m) r (inOne (a .m) (filled .result))) (of-zeros (a .m)) (filled .ensures (a .sums .now) (a .counts .now) (a .checks .now) P))
-    (c .before .before .hand-out .ensures (a .checks .now) P (worked-out .before .sorted .ensures) (worked-out .before .before .least-checks .ensures))
+    (subst (λ r. Carried T (a .input .now) (a .m) r (inOne (a .m) (filled .result))) (of-zeros (a .m)) (filled .ensures (a .counts .now) (a .sums .now) (a .checks .now) P))
+    (c .before .before .hand-out .ensures (a .sums .now) (a .checks .now) P (worked-out .before .sorted .ensures) (worked-out .before .before .least-checks .ensures))
 
 pub receive-spec : {M : Type 1} → statement M
 receive-spec =

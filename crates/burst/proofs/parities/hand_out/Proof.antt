@@ -13,12 +13,15 @@ use Rattle.burst.proofs.parities.hand_out.Statement.{statement}
 use Rattle.burst.proofs.parities.hand_out.Tie as tie
 
 abbrev Inv-loop : tie.InvT-loop
-Inv-loop syndromes₀ coming₀ sums counts checks k p m input output₀ t₀ syndromes coming output t =
-    (m ≤ t) × (t ≤ length input) × (length syndromes ≡ 8) × (length coming ≡ 8) × NoneFrom p syndromes × (length output ≡ length output₀)
-    × HandedOut (tables sums counts checks k p m) input m t (registers coming₀ syndromes₀) (registers coming syndromes) output₀ output
+Inv-loop syndromes₀ coming₀ sums counts checks k p m input output₀ end u₀ syndromes coming output u =
+    (u ≤ length input - m) × (length syndromes ≡ 8) × (length coming ≡ 8) × NoneFrom p syndromes × (length output ≡ length output₀)
+    × HandedOut (tables sums counts checks k p m) input 0 u (registers coming₀ syndromes₀) (registers coming syndromes) output₀ output
 
 abbrev μ-loop : tie.MeasureT-loop
-μ-loop syndromes₀ coming₀ sums counts checks k p m input output₀ t₀ syndromes coming output t = length input - t
+μ-loop syndromes₀ coming₀ sums counts checks k p m input output₀ end u₀ syndromes coming output u = length input - m - u
+
+sub-end : tie.Need-sub-end Inv-loop μ-loop
+sub-end c = omega arith
 
 loop-holds : tie.Need-loop-holds Inv-loop μ-loop
 loop-holds c =
@@ -26,11 +29,13 @@ loop-holds c =
       omega arith,
       omega arith,
       omega arith,
-      omega arith,
       c .before .before .pre .1 .0 .2,
       omega arith,
-      hand-none (tables (a .sums .now) (a .counts .now) (a .checks .now) (a .k) (a .p) (a .m)) (a .input .now) (a .m) (registers (a .coming .now) (a .syndromes .now)) (a .output .now),
+      hand-none (tables (a .sums .now) (a .counts .now) (a .checks .now) (a .k) (a .p) (a .m)) (a .input .now) 0 (registers (a .coming .now) (a .syndromes .now)) (a .output .now),
     )
+
+add-take-in : tie.Need-add-take-in Inv-loop μ-loop
+add-take-in c = omega arith
 
 shared-slice-read-take-in : tie.Need-shared-slice-read-take-in Inv-loop μ-loop
 shared-slice-read-take-in c = omega arith
@@ -42,10 +47,7 @@ correct-requires : tie.Need-correct-requires Inv-loop μ-loop
 correct-requires c κs =
     let T = c .before .take-in .ensures in
     let l = c .before .before .before .before .before .before .loop in
-    ((omega arith, syndromes-length T (omega arith) (l .inv .2)), (none-written T, none-beyond T (omega arith) (l .inv .4)))
-
-sub-u : tie.Need-sub-u Inv-loop μ-loop
-sub-u c = omega arith
+    ((omega arith, syndromes-length T (omega arith) (l .inv .1)), (none-written T, none-beyond T (omega arith) (l .inv .3)))
 
 shared-slice-read-corrected : tie.Need-shared-slice-read-corrected Inv-loop μ-loop
 shared-slice-read-corrected c = omega arith
@@ -56,8 +58,8 @@ corrected-requires c κs = (omega arith, errors-small (c .before .correct .ensur
 slice-write-output : tie.Need-slice-write-output Inv-loop μ-loop
 slice-write-output c = omega arith
 
-add-t : tie.Need-add-t Inv-loop μ-loop
-add-t c = omega arith
+add-u : tie.Need-add-u Inv-loop μ-loop
+add-u c = omega arith
 
 loop-less : tie.Need-loop-less Inv-loop μ-loop
 loop-less c = omega arith
@@ -69,25 +71,24 @@ loop-again c =
     let T = c .before .before .before .before .take-in .ensures in
     let C = c .before .before .correct .ensures in (
       omega arith,
-      omega arith,
-      after-length C (omega arith) (syndromes-length T (omega arith) (l .inv .2)),
-      coming-length T (omega arith) (l .inv .3),
-      after-none C (none-beyond T (omega arith) (l .inv .4)),
-      length-set (l .output) (l .t - a .m) (c .corrected .result) ∙ l .inv .5,
+      after-length C (omega arith) (syndromes-length T (omega arith) (l .inv .1)),
+      coming-length T (omega arith) (l .inv .2),
+      after-none C (none-beyond T (omega arith) (l .inv .3)),
+      length-set (l .output) (l .u) (c .corrected .result) ∙ l .inv .4,
       λ g e number G output₀ same handing.
-          hand-turn (cardFrom number g (a .counts .now) (a .checks .now) (a .k) (a .p) (a .m)) G (a .sums .now) e (a .input .now) (l .t) (c .corrected .result) output₀
-          (l .inv .0) (omega arith) (omega arith) T C (c .corrected .ensures) (l .inv .6 g e number G output₀ same handing),
+          hand-turn (cardFrom number g (a .counts .now) (a .checks .now) (a .k) (a .p) (a .m)) G (a .sums .now) e (a .input .now) (l .u) (c .corrected .result) output₀
+          (omega arith) (omega arith) T C (c .corrected .ensures) (l .inv .5 g e number G output₀ same handing),
     )
 
 same-length : tie.Need-same-length Inv-loop μ-loop
-same-length c = c .before .loop .inv .5
+same-length c = c .before .loop .inv .4
 
 returns : tie.Need-returns Inv-loop μ-loop
 returns c =
     let l = c .before .loop in
     let a = c .before .before .before .before .args in
-    let e : l .t ≡ length (a .input .now) = le-antisymm (l .inv .1) (c .loop-test .left) in
-    all-from (tables (a .sums .now) (a .counts .now) (a .checks .now) (a .k) (a .p) (a .m)) (a .input .now) (rw e at (l .inv .6))
+    let e : l .u ≡ length (a .input .now) - a .m = le-antisymm (l .inv .0) (c .loop-test .left) in
+    all-from (tables (a .sums .now) (a .counts .now) (a .checks .now) (a .k) (a .p) (a .m)) (a .input .now) (rw e at (l .inv .5))
 
 pub hand-out-spec : {M : Type 1} → statement M
 hand-out-spec =
@@ -95,15 +96,16 @@ hand-out-spec =
     (tie.spec
     Inv-loop
     μ-loop
+    sub-end
     loop-holds
+    add-take-in
     shared-slice-read-take-in
     take-in-requires
     correct-requires
-    sub-u
     shared-slice-read-corrected
     corrected-requires
     slice-write-output
-    add-t
+    add-u
     loop-less
     loop-again
     same-length
