@@ -23,7 +23,7 @@ use Rattle.code.specs.declared.Card.{Card}
 use Rattle.majority.specs.Rule.{decoded}
 use Rattle.majority.specs.Voting.{decideBy}
 use Rattle.ballot.specs.Ballot.{votesSorted, decideSorted}
-use Rattle.majority.proofs.Voting.{decide-lt-k}
+use Rattle.majority.proofs.Voting.{decide-lt-k, decide-none}
 use Rattle.ballot.proofs.FewOnes.{decide-few}
 use Rattle.burst.specs.Parts.{cardFrom, EveryCard}
 use Rattle.burst.specs.Held.{tables, Handing, AllHandedOut}
@@ -228,21 +228,25 @@ module _ (number : ℕ) (g counts checks : List ℕ) (k m : ℕ) (G : Guarantees
         (hand-turn c G sums S frames u v output₀ ht ho
         (taken-into sums k m (getD frames (u + m) 0) word (G .m-most) (put-in sums puts k m P word (getD frames (u + m) 0) e)) (both .1) q handing)
 
-    -- nothing is decided to be wrong while too few syndromes are 1
-    few-held : (held least : ℕ) → held < 2 ^ 32 → AtLeast counts k least → 2 * ones held ≤ least → decideBy counts checks (held ∷ replicate 7 0) k 1 ≡ 0
-    unfolding sumBelow count
-    few-held held least hh counted few = decide-few (cardFrom number g counts checks k 1 m) G (held ∷ replicate 7 0) (λ i l. omega (arith, few, counted i l, ones-sum 32 held hh))
-
-    pub word-through : (u v word least : ℕ) (output₀ : List ℕ) {next : ℕ} {output : List ℕ}
+    -- while no syndrome is 1 nothing is decided to be wrong
+    pub word-through : (u v word : ℕ) (output₀ : List ℕ) {next : ℕ} {output : List ℕ}
         → u + m < length frames → length frames ≤ length output₀ + m
         → next ≡ bitXor (word / 2) (getD puts (getD frames (u + m) 0 % 2 ^ (k + 1)) 0)
-        → AtLeast counts k least → 2 * ones (next % 2 ^ (m + 1)) ≤ least
+        → next % 2 ^ (m + 1) ≡ 0
         → v ≡ correctedBy (getD frames u 0) k 0
         → Handing (cardFrom number g counts checks k 1 m) frames output₀ u (inOne m word) output
         → Handing (cardFrom number g counts checks k 1 m) frames output₀ (u + 1) (inOne m next) (set output u v)
-    word-through u v word least output₀ {next} ht ho e counted few q handing =
-        let l : next % 2 ^ (m + 1) < 2 ^ 32 = lt-of-lt-of-le (mod-lt next (pow-pos (m + 1))) (pow-mono {i = m + 1} {j = 32} (omega (arith, G .m-most))) in
-        word-turn u v word output₀ ht ho e (sym (few-held (next % 2 ^ (m + 1)) least l counted few)) (inl (refl, refl)) q handing
+    word-through u v word output₀ {next} ht ho e z q handing =
+        word-turn u v word output₀ ht ho e
+        (sym (decide-none counts checks (inOne m next .syndromes) k 1 (λ j l. let n : j ≡ 0 = omega arith in ap (λ i. getD (inOne m next .syndromes) i 0) n ∙ z)))
+        (inl (refl, refl)) q handing
+
+-- nothing either while too few syndromes are 1
+pub few-held : (number : ℕ) (g counts checks : List ℕ) (k m : ℕ) → Guarantees (cardFrom number g counts checks k 1 m)
+    → (held least : ℕ) → held < 2 ^ 32 → AtLeast counts k least → 2 * ones held ≤ least → decideBy counts checks (held ∷ replicate 7 0) k 1 ≡ 0
+unfolding sumBelow count
+few-held number g counts checks k m G held least hh counted few =
+    decide-few (cardFrom number g counts checks k 1 m) G (held ∷ replicate 7 0) (λ i l. omega (arith, few, counted i l, ones-sum 32 held hh))
 
 -- ---- a card whose parity streams are one
 pub of-one-parity : (g counts checks sums : List ℕ) (k m : ℕ) (frames output : List ℕ) {p : ℕ} {output' : List ℕ} → p ≡ 1 → HasSums g k p (2 ^ k) sums

@@ -2,14 +2,15 @@
 // places 0 to m, the parity digits to come above them. A place further, the digit to come for the frame's time stands at place m, and with the frame's own
 // digits put in there it is the frame's syndrome.
 ghost use mathlib.Core.Path.{_≡_};
-ghost use mathlib.Core.List.{List};
+ghost use mathlib.Core.List.{List, _∷_};
 ghost use mathlib.Core.Logic.{_⊎_};
 ghost use Prim.Native.Nat.{ℕ, _+_, _*_, _/_, _%_, _^_, _<_, _≤_};
 ghost use lib.Bits.{bitXor};
-ghost use lib.Count.{ones};
-ghost use lib.Dec.{ltb};
-ghost use lib.ListN.{length, getD};
+ghost use lib.ListN.{length, getD, replicate};
+ghost use Rattle.code.specs.Guarantees.{Guarantees};
+ghost use Rattle.majority.specs.Voting.{decideBy};
 ghost use Rattle.ballot.specs.Ballot.{Sorted};
+ghost use Rattle.burst.specs.Parts.{cardFrom};
 ghost use Rattle.burst.specs.Registers.{AtLeast, inOne, putOf, HasPuts};
 ghost use Rattle.burst.specs.Held.{tables, Carried, HandedOut, AllHandedOut, AllHandedFrom, EveryTables};
 use crate::registers::corrected;
@@ -102,15 +103,26 @@ fn least_checks(counts: &[usize; 4], k: usize) -> usize
     least
 }
 
-// Whether there are enough syndromes of 1 for a majority of so many checks: no syndrome is in two checks of a stream. On a clean link there are none
-// to be counted.
-fn enough(held: u32, least: usize) -> bool
-    ensures { λ r. ⌜ r ≡ ltb least (2 * ones held) ⌝ }
+// The errors that these syndromes decide. No syndrome is in two checks of a stream, so with few of them 1 there is no majority for any stream of so
+// many checks or more, and no vote.
+fn voted<'a>(
+    held: u32,
+    least: usize,
+    counts: &'a [usize; 4],
+    alone: &'a [u32; 4],
+    several: &'a [u32; 64],
+    left: &'a [usize; 4],
+    k: usize,
+) -> u32
+    ensures { λ r. ⌜ r < 16 ⌝ }
+    ensures { λ r. ⌜ ((number m : ℕ) (generators checks : List ℕ) → Guarantees (cardFrom number generators (now (counts .entry)) checks k 1 m)
+        → Sorted (now (counts .entry)) checks k (now (alone .entry)) (now (several .entry)) (now (left .entry)) → AtLeast (now (counts .entry)) k least
+        → r ≡ decideBy (now (counts .entry)) checks (held ∷ replicate 7 0) k 1) ⌝ }
 {
-    if held == 0 {
-        return false;
+    if least < 2 * bits::index(u32::count_ones(held)) {
+        return decide_sorted(counts, alone, several, left, held, k);
     }
-    least < 2 * bits::index(u32::count_ones(held))
+    0
 }
 
 // How far a loop came: the frame that is handed out next, and the word before the frame m after it.
@@ -119,11 +131,10 @@ struct Reached {
     u: usize,
 }
 
-// While too few syndromes are 1 for any majority there is no vote: the frames are handed out as they came.
+// While no syndrome is 1 there is no vote: the frames are handed out as they came.
 fn hand_through(
     before: u64,
     puts: &[u64; 32],
-    least: usize,
     k: usize,
     m: usize,
     from: usize,
@@ -133,14 +144,14 @@ fn hand_through(
     requires { ⌜ (k ≤ 4) × (m ≤ 31) × (from + m ≤ length (now input)) × (length (now input) ≤ length (now output) + m) ⌝ }
     ensures { λ r. ⌜ (from ≤ r .u) × (r .u + m ≤ length (now (input .entry))) ⌝ }
     ensures { λ r. ⌜ ((counts : List ℕ) → EveryTables (now (puts .entry)) counts k m
-        (λ T. AtLeast (T .counts) k least → HandedOut T (now (input .entry)) from (r .u) (inOne m before) (inOne m (r .word)) (now (output .entry)) (now (output .exit)))) ⌝ }
+        (λ T. HandedOut T (now (input .entry)) from (r .u) (inOne m before) (inOne m (r .word)) (now (output .entry)) (now (output .exit)))) ⌝ }
 {
     let end = input.len() - m;
     let mut word = before;
     let mut u = from;
     while u < end {
         let next = taken_in(word, puts, k, input[u + m]);
-        if enough(syndromes(next, m), least) {
+        if syndromes(next, m) != 0 {
             return Reached { word, u };
         }
         output[u] = corrected(input[u], k, 0);
@@ -154,6 +165,7 @@ fn hand_through(
 fn hand_corrected<'a>(
     before: u64,
     puts: &[u64; 32],
+    least: usize,
     counts: &'a [usize; 4],
     alone: &'a [u32; 4],
     several: &'a [u32; 64],
@@ -166,11 +178,11 @@ fn hand_corrected<'a>(
 ) -> u64
     requires { ⌜ (k ≤ 4) × (m ≤ 31) × (u + m < length (now input)) × (length (now input) ≤ length (now output) + m) ⌝ }
     ensures { λ r. ⌜ EveryTables (now (puts .entry)) (now (counts .entry)) k m
-        (λ T. Sorted (T .counts) (T .checks) k (now (alone .entry)) (now (several .entry)) (now (left .entry))
+        (λ T. Sorted (T .counts) (T .checks) k (now (alone .entry)) (now (several .entry)) (now (left .entry)) → AtLeast (T .counts) k least
         → HandedOut T (now (input .entry)) u (u + 1) (inOne m before) (inOne m r) (now (output .entry)) (now (output .exit))) ⌝ }
 {
     let word = taken_in(before, puts, k, input[u + m]);
-    let errors = decide_sorted(counts, alone, several, left, syndromes(word, m), k);
+    let errors = voted(syndromes(word, m), least, counts, alone, several, left, k);
     output[u] = corrected(input[u], k, errors);
     fed_back(word, puts, m, errors)
 }
@@ -198,7 +210,7 @@ fn hand_out<'a>(
     let mut word = filled;
     let mut u = 0;
     while u < end {
-        let reached = hand_through(word, puts, least, k, m, u, input, output);
+        let reached = hand_through(word, puts, k, m, u, input, output);
         word = reached.word;
         u = reached.u;
         if u == end {
@@ -207,6 +219,7 @@ fn hand_out<'a>(
         word = hand_corrected(
             word,
             puts,
+            least,
             counts,
             alone,
             several,

@@ -3,8 +3,7 @@ use mathlib.Core.List.{_∷_}
 use native.Mathlib.Omega.{arith}
 use lib.ListN.{replicate}
 use Rattle.majority.specs.Voting.{decideBy}
-use Rattle.ballot.proofs.Sorting.{sorted-decides}
-use Rattle.burst.proofs.OneParityReceiving.{sorted-small, word-turn}
+use Rattle.burst.proofs.OneParityReceiving.{word-turn}
 use borrow.Author.Needs.{needs}
 use Rattle.burst.proofs.one_parity_receive.hand_corrected.Statement.{statement}
 use Rattle.burst.proofs.one_parity_receive.hand_corrected.Tie as tie
@@ -21,20 +20,20 @@ taken-in-requires c κs = search needs
 syndromes-requires : tie.Need-syndromes-requires
 syndromes-requires c κs = search needs
 
-decide-sorted-requires : tie.Need-decide-sorted-requires
-decide-sorted-requires c κs = search needs
+voted-requires : tie.Need-voted-requires
+voted-requires c κs = search needs
 
 shared-slice-read-corrected : tie.Need-shared-slice-read-corrected
 shared-slice-read-corrected c = search needs
 
 corrected-requires : tie.Need-corrected-requires
-corrected-requires c κs = (omega arith, sorted-small _ _ _ _ _ _ (c .before .decide-sorted .ensures))
+corrected-requires c κs = (omega arith, c .before .voted .ensures .0)
 
 slice-write-output : tie.Need-slice-write-output
 slice-write-output c = search needs
 
 fed-back-requires : tie.Need-fed-back-requires
-fed-back-requires c κs = (omega arith, sorted-small _ _ _ _ _ _ (c .before .before .decide-sorted .ensures))
+fed-back-requires c κs = (omega arith, c .before .before .voted .ensures .0)
 
 same-length : tie.Need-same-length
 same-length c = search needs
@@ -45,13 +44,11 @@ returns c =
     let pre = c .before .before .before .before .before .before .before .before .before .pre in
     let held = c .before .before .before .before .syndromes in
     let word = c .before .before .before .before .before .taken-in in
-    let decided = c .before .before .before .decide-sorted in
-    λ sums checks P sorted g e number G o same handing.
+    let decided = c .before .before .before .voted in
+    λ sums checks P sorted counted g e number G o same handing.
     word-turn number g (a .counts .now) checks (a .k) (a .m) G sums e (a .input .now) (a .puts .now) P (a .u) (c .before .corrected .result) (a .before) o (pre .2) (omega (arith, pre .3, same))
     (word .ensures)
-    (decided .ensures
-    ∙ sorted-decides (a .counts .now) checks (a .alone .now) (a .several .now) (a .left .now) (held .result) (a .k) sorted
-    ∙ ap (λ s. decideBy (a .counts .now) checks (s ∷ replicate 7 0) (a .k) 1) (held .ensures))
+    (decided .ensures .1 number (a .m) g checks G sorted counted ∙ ap (λ s. decideBy (a .counts .now) checks (s ∷ replicate 7 0) (a .k) 1) (held .ensures))
     (c .fed-back .ensures) (c .before .corrected .ensures) handing
 
 pub hand-corrected-spec : {M : Type 1} → statement M
@@ -62,7 +59,7 @@ hand-corrected-spec =
     shared-slice-read-taken-in
     taken-in-requires
     syndromes-requires
-    decide-sorted-requires
+    voted-requires
     shared-slice-read-corrected
     corrected-requires
     slice-write-output

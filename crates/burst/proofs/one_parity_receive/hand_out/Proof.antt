@@ -41,7 +41,7 @@ returns c =
     let T = tables sums (a .counts .now) checks (a .k) 1 (a .m) in
     all-from T (a .input .now)
     (rw (c .if1 .taken) at (hand-on T (a .input .now) 0 (l .u) (through .result .u) (inOne (a .m) (a .filled)) (inOne (a .m) (l .word)) (inOne (a .m) (through .result .word)) (a .output .now) (l .output) _ (l .inv .1)
-    (l .inv .2 sums checks P sorted counted) (through .ensures .1 (a .counts .now) sums checks P counted)))
+    (l .inv .2 sums checks P sorted counted) (through .ensures .1 (a .counts .now) sums checks P)))
 
 hand-corrected-requires : tie.Need-hand-corrected-requires Inv-loop μ-loop
 hand-corrected-requires c κs = omega arith
@@ -67,8 +67,8 @@ loop-again c =
           let T = tables sums (a .counts .now) checks (a .k) 1 (a .m) in
           hand-on T (a .input .now) 0 (through .result .u) (through .result .u + 1) (inOne (a .m) (a .filled)) (inOne (a .m) (through .result .word)) (inOne (a .m) (corrected .result)) (a .output .now) _ _ (omega arith)
           (hand-on T (a .input .now) 0 (l .u) (through .result .u) (inOne (a .m) (a .filled)) (inOne (a .m) (l .word)) (inOne (a .m) (through .result .word)) (a .output .now) (l .output) _ (l .inv .1)
-          (l .inv .2 sums checks P sorted counted) (through .ensures .1 (a .counts .now) sums checks P counted))
-          (corrected .ensures sums checks P sorted),
+          (l .inv .2 sums checks P sorted counted) (through .ensures .1 (a .counts .now) sums checks P))
+          (corrected .ensures sums checks P sorted counted),
     )
 
 same-length-2 : tie.Need-same-length-2 Inv-loop μ-loop

@@ -1,31 +1,28 @@
 -- The loop has handed out the frames m before those that it passed, and none of these brought a syndrome of 1.
-use Prim.Native.Nat.{ℕ, _-_, _*_, _≤_}
-use mathlib.Core.Path.{_≡_, sym, ap, _∙_}
+use Prim.Native.Nat.{ℕ, _-_, _≤_}
+use mathlib.Core.Path.{_≡_, sym, _∙_}
 use mathlib.Core.List.{List}
 use native.Mathlib.Omega.{arith}
-use lib.Count.{ones}
-use lib.Dec.{ltb}
 use lib.ListN.{length, length-set}
-use borrow.Author.Tests.{ltb-false}
-use Rattle.burst.specs.Registers.{AtLeast, inOne}
+use Rattle.burst.specs.Registers.{inOne}
 use Rattle.burst.specs.Held.{HandedOut, EveryTables}
 use Rattle.burst.proofs.OneParityReceiving.{word-through}
 use Rattle.burst.proofs.one_parity_receive.hand_through.Statement.{statement}
 use Rattle.burst.proofs.one_parity_receive.hand_through.Tie as tie
 
 abbrev Inv-loop : tie.InvT-loop
-Inv-loop before puts least k m from input output₀ end word₀ u₀ output word u =
+Inv-loop before puts k m from input output₀ end word₀ u₀ output word u =
     (from ≤ u) × (u ≤ length input - m) × (length output ≡ length output₀)
-    × ((counts : List ℕ) → EveryTables puts counts k m (λ T. AtLeast (T .counts) k least → HandedOut T input from u (inOne m before) (inOne m word) output₀ output))
+    × ((counts : List ℕ) → EveryTables puts counts k m (λ T. HandedOut T input from u (inOne m before) (inOne m word) output₀ output))
 
 abbrev μ-loop : tie.MeasureT-loop
-μ-loop before puts least k m from input output₀ end word₀ u₀ output word u = length input - m - u
+μ-loop before puts k m from input output₀ end word₀ u₀ output word u = length input - m - u
 
 sub-end : tie.Need-sub-end Inv-loop μ-loop
 sub-end c = omega arith
 
 loop-holds : tie.Need-loop-holds Inv-loop μ-loop
-loop-holds c = (omega arith, omega arith, omega arith, λ counts sums checks P counted g e number G o same handing. handing)
+loop-holds c = (omega arith, omega arith, omega arith, λ counts sums checks P g e number G o same handing. handing)
 
 add-taken-in : tie.Need-add-taken-in Inv-loop μ-loop
 add-taken-in c = omega arith
@@ -40,13 +37,10 @@ syndromes-requires : tie.Need-syndromes-requires Inv-loop μ-loop
 syndromes-requires c κs = omega arith
 
 same-length : tie.Need-same-length Inv-loop μ-loop
-same-length c = c .before .before .before .before .before .before .loop .inv .2
+same-length c = c .before .before .before .before .before .loop .inv .2
 
 returns : tie.Need-returns Inv-loop μ-loop
-returns c = let l = c .before .before .before .before .before .before .loop in ((l .inv .0, omega arith), l .inv .3)
-
-enough-requires : tie.Need-enough-requires Inv-loop μ-loop
-enough-requires c κs = tt
+returns c = let l = c .before .before .before .before .before .loop in ((l .inv .0, omega arith), l .inv .3)
 
 shared-slice-read-corrected : tie.Need-shared-slice-read-corrected Inv-loop μ-loop
 shared-slice-read-corrected c = omega arith
@@ -65,16 +59,15 @@ loop-less c = omega arith
 
 loop-again : tie.Need-loop-again Inv-loop μ-loop
 loop-again c =
-    let l = c .before .before .before .before .before .before .before .before .loop in
-    let a = c .before .before .before .before .before .before .before .before .before .before .before .args in
-    let held = c .before .before .before .before .syndromes .ensures in
-    let few = ltb-false (a .least) _ (sym (ap (λ n. ltb (a .least) (2 * ones n)) held) ∙ sym (c .before .before .before .enough .ensures) ∙ c .before .before .if1 .left) in (
+    let l = c .before .before .before .before .before .before .before .loop in
+    let a = c .before .before .before .before .before .before .before .before .before .before .args in
+    let none = sym (c .before .before .before .syndromes .ensures) ∙ c .before .before .if1 .left in (
       omega arith,
       omega arith,
       length-set (l .output) (l .u) (c .corrected .result) ∙ l .inv .2,
-      λ counts sums checks P counted g e number G o same handing.
-          word-through number g counts checks (a .k) (a .m) G sums e (a .input .now) (a .puts .now) P (l .u) (c .corrected .result) (l .word) (a .least) o (omega arith) (omega arith)
-          (c .before .before .before .before .before .taken-in .ensures) counted few (c .corrected .ensures) (l .inv .3 counts sums checks P counted g e number G o same handing),
+      λ counts sums checks P g e number G o same handing.
+          word-through number g counts checks (a .k) (a .m) G sums e (a .input .now) (a .puts .now) P (l .u) (c .corrected .result) (l .word) o (omega arith) (omega arith)
+          (c .before .before .before .before .taken-in .ensures) none (c .corrected .ensures) (l .inv .3 counts sums checks P g e number G o same handing),
     )
 
 same-length-2 : tie.Need-same-length-2 Inv-loop μ-loop
@@ -95,7 +88,6 @@ hand-through-spec =
     shared-slice-read-taken-in
     taken-in-requires
     syndromes-requires
-    enough-requires
     same-length
     returns
     shared-slice-read-corrected
