@@ -1,11 +1,12 @@
 -- What the registers of the burst receiver hold of a stream: by this they follow the rule. Nobody has to believe this file: it states why the
 -- receiver works, and its promise does not speak of it.
 -- Assumes nothing.
-use Prim.Native.Nat.{ℕ, suc, _+_, _-_, _*_, _%_, _^_, _<_}
+use Prim.Native.Nat.{ℕ, suc, _+_, _-_, _*_, _/_, _%_, _^_, _<_}
 use mathlib.Core.Path.{_≡_}
 use mathlib.Core.Bool.{cond}
 use mathlib.Core.List.{List, _++_}
 use lib.ListN.{length, getD, drop}
+use lib.Bits.{bitXor}
 use lib.Dec.{leb, ltb}
 use Rattle.bits.specs.Sums.{sumBelow, back}
 use Rattle.bits.specs.Digits.{bit}
@@ -81,3 +82,7 @@ AllHandedFrom filled T frames output output' =
 -- every tables with these counts, of one parity stream, for which this is what each frame puts into the word
 abbrev pub EveryTables : List ℕ → List ℕ → ℕ → ℕ → (Tables → Type 0) → Type 0
 EveryTables puts counts k m P = (sums checks : List ℕ) → HasPuts sums k m (2 ^ (k + 1)) puts → P (tables sums counts checks k 1 m)
+
+-- the word is that before with the frame m after frame u taken in, if there is one
+abbrev pub TakenNext : List ℕ → ℕ → ℕ → List ℕ → ℕ → ℕ → ℕ → Type 0
+TakenNext puts k m frames u before word = u + m < length frames → word ≡ bitXor (before / 2) (getD puts (getD frames (u + m) 0 % 2 ^ (k + 1)) 0)

@@ -12,7 +12,7 @@ ghost use Rattle.majority.specs.Voting.{decideBy};
 ghost use Rattle.ballot.specs.Ballot.{Sorted};
 ghost use Rattle.burst.specs.Parts.{cardFrom};
 ghost use Rattle.burst.specs.Registers.{AtLeast, inOne, putOf, HasPuts};
-ghost use Rattle.burst.specs.Held.{tables, Carried, HandedOut, AllHandedOut, AllHandedFrom, EveryTables};
+ghost use Rattle.burst.specs.Held.{tables, Carried, HandedOut, AllHandedOut, AllHandedFrom, EveryTables, TakenNext};
 use crate::registers::corrected;
 use ballot::decide_sorted;
 use ballot::sorted;
@@ -125,7 +125,7 @@ fn voted<'a>(
     0
 }
 
-// How far a loop came: the frame that is handed out next, and the word before the frame m after it.
+// How far a loop came: the frame that is handed out next, and the word with the frame m later taken in, if there is one.
 struct Reached {
     word: u64,
     u: usize,
@@ -144,26 +144,26 @@ fn hand_through(
     requires { ⌜ (k ≤ 4) × (m ≤ 31) × (from + m ≤ length (now input)) × (length (now input) ≤ length (now output) + m) ⌝ }
     ensures { λ r. ⌜ (from ≤ r .u) × (r .u + m ≤ length (now (input .entry))) ⌝ }
     ensures { λ r. ⌜ ((counts : List ℕ) → EveryTables (now (puts .entry)) counts k m
-        (λ T. HandedOut T (now (input .entry)) from (r .u) (inOne m before) (inOne m (r .word)) (now (output .entry)) (now (output .exit)))) ⌝ }
+        (λ T. (word : ℕ) × HandedOut T (now (input .entry)) from (r .u) (inOne m before) (inOne m word) (now (output .entry)) (now (output .exit))
+        × TakenNext (now (puts .entry)) k m (now (input .entry)) (r .u) word (r .word))) ⌝ }
 {
     let end = input.len() - m;
     let mut word = before;
     let mut u = from;
     while u < end {
-        let next = taken_in(word, puts, k, input[u + m]);
-        if syndromes(next, m) != 0 {
+        word = taken_in(word, puts, k, input[u + m]);
+        if syndromes(word, m) != 0 {
             return Reached { word, u };
         }
         output[u] = corrected(input[u], k, 0);
-        word = next;
         u += 1;
     }
     Reached { word, u }
 }
 
-// The frame m later taken in, the errors of this one decided and fed back, and it is handed out with them corrected.
+// With the frame m later taken in: the errors of this one decided and fed back, and it is handed out with them corrected.
 fn hand_corrected<'a>(
-    before: u64,
+    word: u64,
     puts: &[u64; 32],
     least: usize,
     counts: &'a [usize; 4],
@@ -179,9 +179,9 @@ fn hand_corrected<'a>(
     requires { ⌜ (k ≤ 4) × (m ≤ 31) × (u + m < length (now input)) × (length (now input) ≤ length (now output) + m) ⌝ }
     ensures { λ r. ⌜ EveryTables (now (puts .entry)) (now (counts .entry)) k m
         (λ T. Sorted (T .counts) (T .checks) k (now (alone .entry)) (now (several .entry)) (now (left .entry)) → AtLeast (T .counts) k least
+        → (before : ℕ) → TakenNext (now (puts .entry)) k m (now (input .entry)) u before word
         → HandedOut T (now (input .entry)) u (u + 1) (inOne m before) (inOne m r) (now (output .entry)) (now (output .exit))) ⌝ }
 {
-    let word = taken_in(before, puts, k, input[u + m]);
     let errors = voted(syndromes(word, m), least, counts, alone, several, left, k);
     output[u] = corrected(input[u], k, errors);
     fed_back(word, puts, m, errors)

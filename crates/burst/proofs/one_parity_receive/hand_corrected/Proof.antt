@@ -8,15 +8,6 @@ use borrow.Author.Needs.{needs}
 use Rattle.burst.proofs.one_parity_receive.hand_corrected.Statement.{statement}
 use Rattle.burst.proofs.one_parity_receive.hand_corrected.Tie as tie
 
-add-taken-in : tie.Need-add-taken-in
-add-taken-in c = search needs
-
-shared-slice-read-taken-in : tie.Need-shared-slice-read-taken-in
-shared-slice-read-taken-in c = search needs
-
-taken-in-requires : tie.Need-taken-in-requires
-taken-in-requires c κs = search needs
-
 syndromes-requires : tie.Need-syndromes-requires
 syndromes-requires c κs = search needs
 
@@ -40,14 +31,13 @@ same-length c = search needs
 
 returns : tie.Need-returns
 returns c =
-    let a = c .before .before .before .before .before .before .before .before .before .args in
-    let pre = c .before .before .before .before .before .before .before .before .before .pre in
+    let a = c .before .before .before .before .before .before .before .args in
+    let pre = c .before .before .before .before .before .before .before .pre in
     let held = c .before .before .before .before .syndromes in
-    let word = c .before .before .before .before .before .taken-in in
     let decided = c .before .before .before .voted in
-    λ sums checks P sorted counted g e number G o same handing.
-    word-turn number g (a .counts .now) checks (a .k) (a .m) G sums e (a .input .now) (a .puts .now) P (a .u) (c .before .corrected .result) (a .before) o (pre .2) (omega (arith, pre .3, same))
-    (word .ensures)
+    λ sums checks P sorted counted before taken g e number G o same handing.
+    word-turn number g (a .counts .now) checks (a .k) (a .m) G sums e (a .input .now) (a .puts .now) P (a .u) (c .before .corrected .result) before o (pre .2) (omega (arith, pre .3, same))
+    (taken (pre .2))
     (decided .ensures .1 number (a .m) g checks G sorted counted ∙ ap (λ s. decideBy (a .counts .now) checks (s ∷ replicate 7 0) (a .k) 1) (held .ensures))
     (c .fed-back .ensures) (c .before .corrected .ensures) handing
 
@@ -55,9 +45,6 @@ pub hand-corrected-spec : {M : Type 1} → statement M
 hand-corrected-spec =
     tie.close
     (tie.spec
-    add-taken-in
-    shared-slice-read-taken-in
-    taken-in-requires
     syndromes-requires
     voted-requires
     shared-slice-read-corrected

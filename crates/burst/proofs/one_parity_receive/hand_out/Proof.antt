@@ -39,9 +39,10 @@ returns c =
     let through = c .before .before .before .hand-through in
     λ sums checks P sorted counted.
     let T = tables sums (a .counts .now) checks (a .k) 1 (a .m) in
+    let handed = through .ensures .1 (a .counts .now) sums checks P in
     all-from T (a .input .now)
-    (rw (c .if1 .taken) at (hand-on T (a .input .now) 0 (l .u) (through .result .u) (inOne (a .m) (a .filled)) (inOne (a .m) (l .word)) (inOne (a .m) (through .result .word)) (a .output .now) (l .output) _ (l .inv .1)
-    (l .inv .2 sums checks P sorted counted) (through .ensures .1 (a .counts .now) sums checks P)))
+    (rw (c .if1 .taken) at (hand-on T (a .input .now) 0 (l .u) (through .result .u) (inOne (a .m) (a .filled)) (inOne (a .m) (l .word)) (inOne (a .m) (handed .0)) (a .output .now) (l .output) _ (l .inv .1)
+    (l .inv .2 sums checks P sorted counted) (handed .1)))
 
 hand-corrected-requires : tie.Need-hand-corrected-requires Inv-loop μ-loop
 hand-corrected-requires c κs = omega arith
@@ -65,10 +66,11 @@ loop-again c =
       omega arith,
       λ sums checks P sorted counted.
           let T = tables sums (a .counts .now) checks (a .k) 1 (a .m) in
-          hand-on T (a .input .now) 0 (through .result .u) (through .result .u + 1) (inOne (a .m) (a .filled)) (inOne (a .m) (through .result .word)) (inOne (a .m) (corrected .result)) (a .output .now) _ _ (omega arith)
-          (hand-on T (a .input .now) 0 (l .u) (through .result .u) (inOne (a .m) (a .filled)) (inOne (a .m) (l .word)) (inOne (a .m) (through .result .word)) (a .output .now) (l .output) _ (l .inv .1)
-          (l .inv .2 sums checks P sorted counted) (through .ensures .1 (a .counts .now) sums checks P))
-          (corrected .ensures sums checks P sorted counted),
+          let handed = through .ensures .1 (a .counts .now) sums checks P in
+          hand-on T (a .input .now) 0 (through .result .u) (through .result .u + 1) (inOne (a .m) (a .filled)) (inOne (a .m) (handed .0)) (inOne (a .m) (corrected .result)) (a .output .now) _ _ (omega arith)
+          (hand-on T (a .input .now) 0 (l .u) (through .result .u) (inOne (a .m) (a .filled)) (inOne (a .m) (l .word)) (inOne (a .m) (handed .0)) (a .output .now) (l .output) _ (l .inv .1)
+          (l .inv .2 sums checks P sorted counted) (handed .1))
+          (corrected .ensures sums checks P sorted counted (handed .0) (handed .2)),
     )
 
 same-length-2 : tie.Need-same-length-2 Inv-loop μ-loop

@@ -40,7 +40,9 @@ same-length : tie.Need-same-length Inv-loop μ-loop
 same-length c = c .before .before .before .before .before .loop .inv .2
 
 returns : tie.Need-returns Inv-loop μ-loop
-returns c = let l = c .before .before .before .before .before .loop in ((l .inv .0, omega arith), l .inv .3)
+returns c =
+    let l = c .before .before .before .before .before .loop in
+    ((l .inv .0, omega arith), λ counts sums checks P. (l .word, l .inv .3 counts sums checks P, λ within. c .before .before .taken-in .ensures))
 
 shared-slice-read-corrected : tie.Need-shared-slice-read-corrected Inv-loop μ-loop
 shared-slice-read-corrected c = omega arith
@@ -74,7 +76,9 @@ same-length-2 : tie.Need-same-length-2 Inv-loop μ-loop
 same-length-2 c = c .before .loop .inv .2
 
 returns-2 : tie.Need-returns-2 Inv-loop μ-loop
-returns-2 c = let l = c .before .loop in ((l .inv .0, omega arith), l .inv .3)
+returns-2 c =
+    let l = c .before .loop in
+    ((l .inv .0, omega arith), λ counts sums checks P. (l .word, l .inv .3 counts sums checks P, λ within. absurd (omega arith)))
 
 pub hand-through-spec : {M : Type 1} → statement M
 hand-through-spec =
