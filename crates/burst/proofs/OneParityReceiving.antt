@@ -2,18 +2,20 @@
 -- in arrays.
 use Prim.Native.Nat.{ℕ, zero, suc, _-_, _+_, _*_, _/_, _%_, _^_, _≤_, _<_, min}
 use mathlib.Core.Path.{_≡_, refl, sym, ap, ap₂, _∙_, subst}
+use mathlib.Core.Bool.{Bool, true, false, _||_, true≢false}
 use mathlib.Core.Logic.{_⊎_, inl, inr, ⊎-elim}
-use mathlib.Core.List.{List, _∷_, _++_}
+use mathlib.Core.List.{List, [], _∷_, _++_}
 use native.Mathlib.Nat.{lt-of-lt-of-le, zero-div, zero-mod, mul-le-mul-left, mod-lt, mod-eq-of-lt, div-eq-of-lt, zero-lt-suc, add-zero, add-comm, add-assoc, add-mul, mul-assoc, pow-succ', div-add-mod', div-one}
 use native.Mathlib.Numerals.{add-one}
 use native.Mathlib.Omega.{arith}
 use lib.ListN.{length, getD, set, drop, replicate}
 use lib.Bits.{bitXor, xor-lt, block-half, xor-comm, xor-zero-r, xor-shifted, xor-block, xor-shr, xor-mod}
 use lib.Count.{ones}
-use lib.Dec.{ltb}
+use lib.Dec.{leb, ltb}
+use borrow.Author.Tests.{leb-false}
 use lib.Pow.{pow-pos, pow-mono, shl-shr, split, high, low, shl-exact, mod-mod-pow, field}
 use Rattle.bits.specs.Sums.{sumBelow, xorBelow, upTo}
-use Rattle.bits.specs.Digits.{bit, shiftUp}
+use Rattle.bits.specs.Digits.{bit, shiftUp, anyBeyond}
 use Rattle.bits.proofs.Cases.{cond-le}
 use Rattle.bits.proofs.Digits.{bit-lt, bit-zero, bit-xor, digits-lt, from-digits-lt, ones-sum}
 use Rattle.bits.proofs.Words.{shift-digit}
@@ -28,24 +30,31 @@ use Rattle.ballot.proofs.FewOnes.{decide-few}
 use Rattle.burst.specs.Parts.{cardFrom, EveryCard}
 use Rattle.burst.specs.Held.{tables, Handing, AllHandedOut}
 use Rattle.burst.proofs.HandingOut.{hand-turn}
-use Rattle.burst.specs.Registers.{Registers, registers, generatorSum, HasSums, parityWith, comingNext, syndromesNext, written, TakenIn, takenOut, Corrected, correctedBy, AtLeast, inOne, putOf, HasPuts}
+use Rattle.burst.specs.Registers.{Registers, registers, generatorSum, HasSums, parityWith, comingNext, syndromesNext, written, TakenIn, takenOut, Corrected, correctedBy, AtLeast, AllWithin, inOne, putOf, HasPuts}
 
 -- twice a power of two, shifted up within the word
 pub twice-is : (k w : ℕ) → k + 2 ≤ w → 2 * 2 ^ k % 2 ^ w ≡ 2 ^ (k + 1)
 twice-is k w h = shl-exact {a = 2} 2 k w (omega arith) (omega arith) ∙ sym (pow-succ' 2 k) ∙ ap (λ n. 2 ^ n) (sym (add-one k))
 
--- what a frame puts in depends on its first k + 1 digits only
-pub put-of-mod : (sums : List ℕ) (k m f : ℕ) → putOf sums k m (f % 2 ^ (k + 1)) ≡ putOf sums k m f
-unfolding putOf
-put-of-mod sums k m f =
-    let e : k + 1 ≡ 1 + k = omega arith in
-    ap₂ (λ x q. bitXor (getD sums (x * 8) 0) (q % 2) * 2 ^ m) (ap (λ n. f % 2 ^ n % 2 ^ k) e ∙ mod-mod-pow f 1 k) (ap (λ n. f % 2 ^ n / 2 ^ k) e ∙ field f 1 k)
-    ∙ ap (λ q. bitXor (getD sums (f % 2 ^ k * 8) 0) q * 2 ^ m) (omega arith)
-
 -- the table has what the frame puts in
-pub put-in : (sums puts : List ℕ) (k m : ℕ) → HasPuts sums k m (2 ^ (k + 1)) puts → (word f : ℕ) {next : ℕ}
-    → next ≡ bitXor (word / 2) (getD puts (f % 2 ^ (k + 1)) 0) → next ≡ bitXor (word / 2) (putOf sums k m f)
-put-in sums puts k m P word f e = e ∙ ap (bitXor (word / 2)) (P (f % 2 ^ (k + 1)) (mod-lt f (pow-pos (k + 1))) ∙ put-of-mod sums k m f)
+pub put-in : (sums puts : List ℕ) (k m : ℕ) → HasPuts sums k m (2 ^ (k + 1)) puts → (word f : ℕ) {next : ℕ} → f < 2 ^ (k + 1)
+    → next ≡ bitXor (word / 2) (getD puts f 0) → next ≡ bitXor (word / 2) (putOf sums k m f)
+put-in sums puts k m P word f l e = e ∙ ap (bitXor (word / 2)) (P f l)
+
+-- a frame of k + 1 digits is in the table
+pub in-table : (k f : ℕ) → k ≤ 4 → f < 2 ^ (k + 1) → f < 32
+in-table k f h l = omega (arith, pow-mono {i = k + 1} {j = 5} (omega arith))
+
+-- frames of which none has a digit beyond its streams
+neither : (a b : Bool) → (a || b) ≡ false → (a ≡ false) × (b ≡ false)
+neither true b e = absurd (true≢false e)
+neither false b e = (refl, e)
+
+pub all-within : (n : ℕ) (frames : List ℕ) → anyBeyond n frames ≡ false → AllWithin n frames
+unfolding anyBeyond
+all-within n [] e t l = absurd (omega arith)
+all-within n (f ∷ frames) e zero l = leb-false (2 ^ n) f (neither (leb (2 ^ n) f) (anyBeyond n frames) e .0)
+all-within n (f ∷ frames) e (suc t) l = all-within n frames (neither (leb (2 ^ n) f) (anyBeyond n frames) e .1) t (omega arith)
 
 -- a word of zeros is registers of zeros
 pub of-zeros : (m : ℕ) → inOne m 0 ≡ registers (replicate 8 0) (replicate 8 0)
@@ -212,10 +221,10 @@ module _ (number : ℕ) (g counts checks : List ℕ) (k m : ℕ) (G : Guarantees
         },
       )
 
-  module _ (puts : List ℕ) (P : HasPuts sums k m (2 ^ (k + 1)) puts) where
+  module _ (puts : List ℕ) (P : HasPuts sums k m (2 ^ (k + 1)) puts) (within : AllWithin (k + 1) frames) where
     pub word-turn : (u v word : ℕ) (output₀ : List ℕ) {taken next errors : ℕ} {output : List ℕ}
         → u + m < length frames → length frames ≤ length output₀ + m
-        → taken ≡ bitXor (word / 2) (getD puts (getD frames (u + m) 0 % 2 ^ (k + 1)) 0)
+        → taken ≡ bitXor (word / 2) (getD puts (getD frames (u + m) 0) 0)
         → errors ≡ decideBy counts checks (inOne m taken .syndromes) k 1
         → ((errors ≡ 0) × (next ≡ taken)) ⊎ (next ≡ bitXor taken (getD puts errors 0 / 2 ^ m))
         → v ≡ correctedBy (getD frames u 0) k errors
@@ -226,12 +235,12 @@ module _ (number : ℕ) (g counts checks : List ℕ) (k m : ℕ) (G : Guarantees
         let both = fed-into puts P d w in
         subst (λ x. Handing c frames output₀ (u + 1) (registers (x ∷ replicate 7 0) (inOne m next .syndromes)) (set output u v)) (sym (both .0))
         (hand-turn c G sums S frames u v output₀ ht ho
-        (taken-into sums k m (getD frames (u + m) 0) word (G .m-most) (put-in sums puts k m P word (getD frames (u + m) 0) e)) (both .1) q handing)
+        (taken-into sums k m (getD frames (u + m) 0) word (G .m-most) (put-in sums puts k m P word (getD frames (u + m) 0) (within (u + m) ht) e)) (both .1) q handing)
 
     -- while no syndrome is 1 nothing is decided to be wrong
     pub word-through : (u v word : ℕ) (output₀ : List ℕ) {next : ℕ} {output : List ℕ}
         → u + m < length frames → length frames ≤ length output₀ + m
-        → next ≡ bitXor (word / 2) (getD puts (getD frames (u + m) 0 % 2 ^ (k + 1)) 0)
+        → next ≡ bitXor (word / 2) (getD puts (getD frames (u + m) 0) 0)
         → next % 2 ^ (m + 1) ≡ 0
         → v ≡ correctedBy (getD frames u 0) k 0
         → Handing (cardFrom number g counts checks k 1 m) frames output₀ u (inOne m word) output

@@ -84,5 +84,5 @@ abbrev pub EveryTables : List ℕ → List ℕ → ℕ → ℕ → (Tables → T
 EveryTables puts counts k m P = (sums checks : List ℕ) → HasPuts sums k m (2 ^ (k + 1)) puts → P (tables sums counts checks k 1 m)
 
 -- the word is that before with the frame m after frame u taken in, if there is one
-abbrev pub TakenNext : List ℕ → ℕ → ℕ → List ℕ → ℕ → ℕ → ℕ → Type 0
-TakenNext puts k m frames u before word = u + m < length frames → word ≡ bitXor (before / 2) (getD puts (getD frames (u + m) 0 % 2 ^ (k + 1)) 0)
+abbrev pub TakenNext : List ℕ → ℕ → List ℕ → ℕ → ℕ → ℕ → Type 0
+TakenNext puts m frames u before word = u + m < length frames → word ≡ bitXor (before / 2) (getD puts (getD frames (u + m) 0) 0)

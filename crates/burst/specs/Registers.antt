@@ -5,7 +5,7 @@ use Prim.Native.Nat.{ℕ, _+_, _*_, _/_, _%_, _^_, _≤_, _<_}
 use mathlib.Core.Path.{_≡_}
 use mathlib.Core.Logic.{_⊎_}
 use mathlib.Core.List.{List, _∷_, _++_}
-use lib.ListN.{getD, drop, replicate}
+use lib.ListN.{length, getD, drop, replicate}
 use lib.Bits.{bitXor}
 use Rattle.bits.specs.Sums.{xorBelow, upTo}
 use Rattle.bits.specs.Digits.{bit, shiftUp}
@@ -74,6 +74,10 @@ AtLeast counts k least = (i : ℕ) → i < k → least ≤ getD counts i 0
 -- streams 1 to k of a frame, the errors e added
 unfoldable pub correctedBy : ℕ → ℕ → ℕ → ℕ
 correctedBy f k e = bitXor (f % 2 ^ k) e
+
+-- no frame has a digit at stream n or beyond
+abbrev pub AllWithin : ℕ → List ℕ → Type 0
+AllWithin n frames = (t : ℕ) → t < length frames → getD frames t 0 < 2 ^ n
 
 -- ---- one parity stream, its two registers in one word: the syndromes in places 0 to m, the parity digits to come above them
 abbrev pub inOne : ℕ → ℕ → Registers

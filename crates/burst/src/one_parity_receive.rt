@@ -11,7 +11,7 @@ ghost use Rattle.code.specs.Guarantees.{Guarantees};
 ghost use Rattle.majority.specs.Voting.{decideBy};
 ghost use Rattle.ballot.specs.Ballot.{Sorted};
 ghost use Rattle.burst.specs.Parts.{cardFrom};
-ghost use Rattle.burst.specs.Registers.{AtLeast, inOne, putOf, HasPuts};
+ghost use Rattle.burst.specs.Registers.{AtLeast, AllWithin, inOne, putOf, HasPuts};
 ghost use Rattle.burst.specs.Held.{tables, Carried, HandedOut, AllHandedOut, AllHandedFrom, EveryTables, TakenNext};
 use crate::registers::corrected;
 use ballot::decide_sorted;
@@ -48,11 +48,11 @@ fn puts(sums: &[u32; 128], k: usize, m: usize) -> [u64; 32]
 }
 
 // The word a place further, with a frame put in.
-fn taken_in(word: u64, puts: &[u64; 32], k: usize, frame: u8) -> u64
-    requires { ⌜ k ≤ 4 ⌝ }
-    ensures { λ r. ⌜ r ≡ bitXor (word / 2) (getD (now (puts .entry)) (frame % 2 ^ (k + 1)) 0) ⌝ }
+fn taken_in(word: u64, puts: &[u64; 32], frame: u8) -> u64
+    requires { ⌜ frame < 32 ⌝ }
+    ensures { λ r. ⌜ r ≡ bitXor (word / 2) (getD (now (puts .entry)) frame 0) ⌝ }
 {
-    word >> 1 ^ puts[bits::size(frame) % (2 << k)]
+    word >> 1 ^ puts[bits::size(frame)]
 }
 
 // The syndromes held.
@@ -77,13 +77,13 @@ fn fed_back(word: u64, puts: &[u64; 32], m: usize, errors: u32) -> u64
 
 // The first m frames, for which nothing is handed out.
 fn fill(puts: &[u64; 32], k: usize, m: usize, input: &[u8]) -> u64
-    requires { ⌜ (k ≤ 4) × (m ≤ 31) × (m ≤ length (now input)) ⌝ }
+    requires { ⌜ (k ≤ 4) × (m ≤ 31) × (m ≤ length (now input)) × AllWithin (k + 1) (now input) ⌝ }
     ensures { λ r. ⌜ ((counts : List ℕ) → EveryTables (now (puts .entry)) counts k m (λ T. Carried T (now (input .entry)) m (inOne m 0) (inOne m r))) ⌝ }
 {
     let mut word: u64 = 0;
     let mut t = 0;
     while t < m {
-        word = taken_in(word, puts, k, input[t]);
+        word = taken_in(word, puts, input[t]);
         t += 1;
     }
     word
@@ -141,17 +141,17 @@ fn hand_through(
     input: &[u8],
     output: &mut [u8],
 ) -> Reached
-    requires { ⌜ (k ≤ 4) × (m ≤ 31) × (from + m ≤ length (now input)) × (length (now input) ≤ length (now output) + m) ⌝ }
+    requires { ⌜ (k ≤ 4) × (m ≤ 31) × (from + m ≤ length (now input)) × (length (now input) ≤ length (now output) + m) × AllWithin (k + 1) (now input) ⌝ }
     ensures { λ r. ⌜ (from ≤ r .u) × (r .u + m ≤ length (now (input .entry))) ⌝ }
     ensures { λ r. ⌜ ((counts : List ℕ) → EveryTables (now (puts .entry)) counts k m
         (λ T. (word : ℕ) × HandedOut T (now (input .entry)) from (r .u) (inOne m before) (inOne m word) (now (output .entry)) (now (output .exit))
-        × TakenNext (now (puts .entry)) k m (now (input .entry)) (r .u) word (r .word))) ⌝ }
+        × TakenNext (now (puts .entry)) m (now (input .entry)) (r .u) word (r .word))) ⌝ }
 {
     let end = input.len() - m;
     let mut word = before;
     let mut u = from;
     while u < end {
-        word = taken_in(word, puts, k, input[u + m]);
+        word = taken_in(word, puts, input[u + m]);
         if syndromes(word, m) != 0 {
             return Reached { word, u };
         }
@@ -176,10 +176,10 @@ fn hand_corrected<'a>(
     input: &[u8],
     output: &mut [u8],
 ) -> u64
-    requires { ⌜ (k ≤ 4) × (m ≤ 31) × (u + m < length (now input)) × (length (now input) ≤ length (now output) + m) ⌝ }
+    requires { ⌜ (k ≤ 4) × (m ≤ 31) × (u + m < length (now input)) × (length (now input) ≤ length (now output) + m) × AllWithin (k + 1) (now input) ⌝ }
     ensures { λ r. ⌜ EveryTables (now (puts .entry)) (now (counts .entry)) k m
         (λ T. Sorted (T .counts) (T .checks) k (now (alone .entry)) (now (several .entry)) (now (left .entry)) → AtLeast (T .counts) k least
-        → (before : ℕ) → TakenNext (now (puts .entry)) k m (now (input .entry)) u before word
+        → (before : ℕ) → TakenNext (now (puts .entry)) m (now (input .entry)) u before word
         → HandedOut T (now (input .entry)) u (u + 1) (inOne m before) (inOne m r) (now (output .entry)) (now (output .exit))) ⌝ }
 {
     let errors = voted(syndromes(word, m), least, counts, alone, several, left, k);
@@ -201,7 +201,7 @@ fn hand_out<'a>(
     input: &[u8],
     output: &mut [u8],
 )
-    requires { ⌜ (k ≤ 4) × (m ≤ 31) × (m ≤ length (now input)) × (length (now input) ≤ length (now output) + m) ⌝ }
+    requires { ⌜ (k ≤ 4) × (m ≤ 31) × (m ≤ length (now input)) × (length (now input) ≤ length (now output) + m) × AllWithin (k + 1) (now input) ⌝ }
     ensures { λ r. ⌜ EveryTables (now (puts .entry)) (now (counts .entry)) k m
         (λ T. Sorted (T .counts) (T .checks) k (now (alone .entry)) (now (several .entry)) (now (left .entry)) → AtLeast (T .counts) k least
         → AllHandedFrom (inOne m filled) T (now (input .entry)) (now (output .entry)) (now (output .exit))) ⌝ }
@@ -245,7 +245,7 @@ pub(crate) fn receive<'a>(
     output: &mut [u8],
 )
     requires { ⌜ (k ≤ 4) × (m ≤ 31) ⌝ }
-    requires { ⌜ (m ≤ length (now input)) × (length (now input) ≤ length (now output) + m) ⌝ }
+    requires { ⌜ (m ≤ length (now input)) × (length (now input) ≤ length (now output) + m) × AllWithin (k + 1) (now input) ⌝ }
     ensures { λ r. ⌜ AllHandedOut (tables (now (sums .entry)) (now (counts .entry)) (now (checks .entry)) k 1 m) (now (input .entry)) (now (output .entry)) (now (output .exit)) ⌝ }
 {
     let puts = puts(sums, k, m);

@@ -8,6 +8,7 @@ ghost use Rattle.majority.specs.Rule.{decoded};
 ghost use Rattle.outcomes.specs.Outcome.{outcome};
 ghost use Rattle.outcomes.specs.Receiving.{receiveUnder, receiveOf};
 ghost use Rattle.outcomes.specs.Claims.{ComesOutAsSent};
+ghost use Rattle.burst.specs.Registers.{AllWithin};
 ghost use Rattle.burst.specs.Parts.{EveryCard};
 use crate::answer::counted;
 use crate::answer::refused;
@@ -31,7 +32,7 @@ fn receive_frames<'a>(
     output: &mut [u8],
 )
     requires { ⌜ (k ≤ 4) × (k + p ≤ 8) × (m ≤ 31) ⌝ }
-    requires { ⌜ length (now input) ≤ length (now output) + m ⌝ }
+    requires { ⌜ (length (now input) ≤ length (now output) + m) × AllWithin (k + p) (now input) ⌝ }
     ensures { λ r. ⌜ EveryCard (now (generators .entry)) (now (counts .entry)) (now (checks .entry)) k p m
         (λ c. now (output .exit) ≡ decoded c (now (input .entry)) ++ drop (length (now (input .entry)) - m) (now (output .entry))) ⌝ }
 {

@@ -8,7 +8,7 @@ use lib.ListN.{getD}
 use Rattle.burst.specs.Registers.{inOne}
 use Rattle.burst.specs.Held.{tables, Carried, EveryTables}
 use Rattle.burst.proofs.Waiting.{wait-more}
-use Rattle.burst.proofs.OneParityReceiving.{put-in, taken-into}
+use Rattle.burst.proofs.OneParityReceiving.{in-table, put-in, taken-into}
 use Rattle.burst.proofs.one_parity_receive.fill.Statement.{statement}
 use Rattle.burst.proofs.one_parity_receive.fill.Tie as tie
 
@@ -25,7 +25,9 @@ shared-slice-read-taken-in : tie.Need-shared-slice-read-taken-in Inv-loop μ-loo
 shared-slice-read-taken-in c = omega arith
 
 taken-in-requires : tie.Need-taken-in-requires Inv-loop μ-loop
-taken-in-requires c κs = omega arith
+taken-in-requires c κs =
+    let start = c .before .before .before .before in
+    in-table (start .args .k) _ (start .pre .0) (start .pre .3 (c .before .before .loop .t) (omega arith))
 
 add-t : tie.Need-add-t Inv-loop μ-loop
 add-t c = omega arith
@@ -41,7 +43,7 @@ loop-again c =
       omega arith,
       λ counts sums checks P.
           wait-more (tables sums counts checks (a .k) 1 (a .m)) (a .input .now) (l .t) (omega arith)
-          (taken-into sums (a .k) (a .m) f (l .word) (omega arith) (put-in sums (a .puts .now) (a .k) (a .m) P (l .word) f (c .taken-in .ensures))) (l .inv .1 counts sums checks P),
+          (taken-into sums (a .k) (a .m) f (l .word) (omega arith) (put-in sums (a .puts .now) (a .k) (a .m) P (l .word) f (c .before .before .before .before .before .pre .3 (l .t) (omega arith)) (c .taken-in .ensures))) (l .inv .1 counts sums checks P),
     )
 
 returns : tie.Need-returns Inv-loop μ-loop

@@ -36,7 +36,7 @@ returns c =
     let held = c .before .before .before .before .syndromes in
     let decided = c .before .before .before .voted in
     λ sums checks P sorted counted before taken g e number G o same handing.
-    word-turn number g (a .counts .now) checks (a .k) (a .m) G sums e (a .input .now) (a .puts .now) P (a .u) (c .before .corrected .result) before o (pre .2) (omega (arith, pre .3, same))
+    word-turn number g (a .counts .now) checks (a .k) (a .m) G sums e (a .input .now) (a .puts .now) P (pre .4) (a .u) (c .before .corrected .result) before o (pre .2) (omega (arith, pre .3, same))
     (taken (pre .2))
     (decided .ensures .1 number (a .m) g checks G sorted counted ∙ ap (λ s. decideBy (a .counts .now) checks (s ∷ replicate 7 0) (a .k) 1) (held .ensures))
     (c .fed-back .ensures) (c .before .corrected .ensures) handing

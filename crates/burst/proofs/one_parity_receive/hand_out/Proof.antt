@@ -27,7 +27,9 @@ loop-holds : tie.Need-loop-holds Inv-loop μ-loop
 loop-holds c = (omega arith, omega arith, λ sums checks P sorted counted g e number G o same handing. handing)
 
 hand-through-requires : tie.Need-hand-through-requires Inv-loop μ-loop
-hand-through-requires c κs = omega arith
+hand-through-requires c κs =
+    let pre = c .before .before .before .before .before .pre in
+    (omega arith, omega arith, omega arith, omega arith, pre .4)
 
 same-length : tie.Need-same-length Inv-loop μ-loop
 same-length c = omega arith
@@ -45,7 +47,9 @@ returns c =
     (l .inv .2 sums checks P sorted counted) (handed .1)))
 
 hand-corrected-requires : tie.Need-hand-corrected-requires Inv-loop μ-loop
-hand-corrected-requires c κs = omega arith
+hand-corrected-requires c κs =
+    let pre = c .before .before .before .before .before .before .before .before .before .before .pre in
+    (omega arith, omega arith, omega arith, omega arith, pre .4)
 
 add-u : tie.Need-add-u Inv-loop μ-loop
 add-u c =

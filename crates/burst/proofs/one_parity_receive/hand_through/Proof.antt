@@ -1,12 +1,12 @@
 -- The loop has handed out the frames m before those that it passed, and none of these brought a syndrome of 1.
-use Prim.Native.Nat.{ℕ, _-_, _≤_}
+use Prim.Native.Nat.{ℕ, _+_, _-_, _≤_}
 use mathlib.Core.Path.{_≡_, sym, _∙_}
 use mathlib.Core.List.{List}
 use native.Mathlib.Omega.{arith}
 use lib.ListN.{length, length-set}
 use Rattle.burst.specs.Registers.{inOne}
 use Rattle.burst.specs.Held.{HandedOut, EveryTables}
-use Rattle.burst.proofs.OneParityReceiving.{word-through}
+use Rattle.burst.proofs.OneParityReceiving.{in-table, word-through}
 use Rattle.burst.proofs.one_parity_receive.hand_through.Statement.{statement}
 use Rattle.burst.proofs.one_parity_receive.hand_through.Tie as tie
 
@@ -31,7 +31,10 @@ shared-slice-read-taken-in : tie.Need-shared-slice-read-taken-in Inv-loop μ-loo
 shared-slice-read-taken-in c = omega arith
 
 taken-in-requires : tie.Need-taken-in-requires Inv-loop μ-loop
-taken-in-requires c κs = omega arith
+taken-in-requires c κs =
+    let start = c .before .before .before .before .before in
+    let l = c .before .before .loop in
+    in-table (start .args .k) _ (start .pre .0) (start .pre .4 (l .u + start .args .m) (omega arith))
 
 syndromes-requires : tie.Need-syndromes-requires Inv-loop μ-loop
 syndromes-requires c κs = omega arith
@@ -68,7 +71,7 @@ loop-again c =
       omega arith,
       length-set (l .output) (l .u) (c .corrected .result) ∙ l .inv .2,
       λ counts sums checks P g e number G o same handing.
-          word-through number g counts checks (a .k) (a .m) G sums e (a .input .now) (a .puts .now) P (l .u) (c .corrected .result) (l .word) o (omega arith) (omega arith)
+          word-through number g counts checks (a .k) (a .m) G sums e (a .input .now) (a .puts .now) P (c .before .before .before .before .before .before .before .before .before .before .pre .4) (l .u) (c .corrected .result) (l .word) o (omega arith) (omega arith)
           (c .before .before .before .before .taken-in .ensures) none (c .corrected .ensures) (l .inv .3 counts sums checks P g e number G o same handing),
     )
 

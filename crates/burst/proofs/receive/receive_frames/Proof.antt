@@ -1,3 +1,7 @@
+use Prim.Native.Nat.{_+_}
+use mathlib.Core.Path.{_≡_, ap, subst}
+use native.Mathlib.Omega.{arith}
+use Rattle.burst.specs.Registers.{AllWithin}
 use Rattle.burst.proofs.HandingOut.{none-handed}
 use Rattle.burst.proofs.OneParityReceiving.{of-one-parity}
 use borrow.Author.Needs.{needs}
@@ -11,7 +15,11 @@ generator-sums-requires : tie.Need-generator-sums-requires
 generator-sums-requires c κs = search needs
 
 receive-requires : tie.Need-receive-requires
-receive-requires c κs = search needs
+receive-requires c κs =
+    let start = c .before .before .before .before .before .before .before in
+    let a = start .args in
+    let e : a .k + a .p ≡ a .k + 1 = ap (λ p. a .k + p) (c .before .before .if2 .taken) in
+    ((omega arith, omega arith), (omega arith, omega arith, subst (λ n. AllWithin n (a .input .now)) e (start .pre .1 .1)))
 
 same-length : tie.Need-same-length
 same-length c = search needs

@@ -7,6 +7,8 @@ use borrow.Author.Needs.{needs}
 use Rattle.majority.specs.Rule.{decoded}
 use Rattle.majority.proofs.Streams.{decoded-length}
 use Rattle.burst.specs.Parts.{cardFrom}
+use native.Mathlib.Omega.{arith}
+use Rattle.burst.proofs.OneParityReceiving.{all-within}
 use Rattle.burst.proofs.Answers.{answer-is}
 use Rattle.outcomes.proofs.Outcomes.{refused-is, given-is}
 use Rattle.outcomes.proofs.Received.{receive-full, receive-short, receive-beyond, receive-given}
@@ -52,7 +54,10 @@ returns-3 c number G =
     ∙ sym (receive-beyond _ (a .input .now) (a .output .now) (c .before .before .before .before .before .if1 .left) o (sym (c .before .before .any-beyond .ensures) ∙ c .before .if3 .taken))
 
 receive-frames-requires : tie.Need-receive-frames-requires
-receive-frames-requires c κs = search needs
+receive-frames-requires c κs =
+    let start = c .before .before .before .before .before .before .before .before in
+    let room : length (start .args .input .now) - start .args .m ≤ length (start .args .output .now) = rw (c .before .before .before .before .after-first .ensures) at (c .before .before .before .if2 .left) in
+    (start .pre, (omega (arith, room), all-within _ (start .args .input .now) (sym (c .before .before .any-beyond .ensures) ∙ c .before .if3 .left)))
 
 counted-requires : tie.Need-counted-requires
 counted-requires c κs = search needs
