@@ -10,8 +10,6 @@ ghost use Rattle.outcomes.specs.Receiving.{receiveUnder, receiveOf};
 ghost use Rattle.outcomes.specs.Claims.{ComesOutAsSent};
 ghost use Rattle.burst.specs.Registers.{AllWithin};
 ghost use Rattle.burst.specs.Parts.{EveryCard};
-use crate::answer::counted;
-use crate::answer::refused;
 use crate::one_parity_receive;
 use crate::parities;
 use crate::registers::generator_sums;
@@ -19,6 +17,8 @@ use card::CardRule;
 use card::Refusal;
 use card::Verdict;
 use code::MOST_FRAMES;
+use outcomes::answer::counted;
+use outcomes::answer::refused;
 
 // The frames that the rule hands out for a burst under a card with these tables.
 fn receive_frames<'a>(

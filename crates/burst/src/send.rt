@@ -7,13 +7,13 @@ ghost use Rattle.code.specs.Code.{sent};
 ghost use Rattle.outcomes.specs.Outcome.{outcome};
 ghost use Rattle.outcomes.specs.Sending.{sendUnder, sendOf};
 ghost use Rattle.burst.specs.Parts.{EveryCode};
-use crate::answer::counted;
-use crate::answer::refused;
 use crate::one_parity_send;
 use card::CardRule;
 use card::Refusal;
 use card::Verdict;
 use code::MOST_FRAMES;
+use outcomes::answer::counted;
+use outcomes::answer::refused;
 
 // The information frame of time `at`, zero after the last one: the tail's.
 fn information(input: &[u8], at: usize) -> u32

@@ -9,10 +9,10 @@ ghost use Rattle.writer.specs.Outcome.{writeUnder, writeOf};
 ghost use Rattle.writer.specs.Claims.{CarriesOn};
 ghost use Rattle.standard.specs.Standard.{standardOf, StandardCards};
 use crate::answer::answered;
-use crate::answer::refused;
 use card::CardRule;
 use card::Verdict;
 use code::Card;
+use outcomes::answer::refused;
 
 // An accepted card.
 fn write_under(card: Card, output: &mut [u8]) -> i32

@@ -1,4 +1,5 @@
 pub mod Writing
+pub mod Answers
 -- bursts
 pub mod Outcomes
 pub mod Received

@@ -1,5 +1,7 @@
 // What a burst and a listing come to, by the definitions, and the third term for a burst: the code of `burst` and `listing` is proved to come to
-// this. The only code here is what the listing and the trace share: the length of the card that an input states.
+// this. The only code here is what several crates share: the answers of the calls, and the length of the card that an input states.
+pub mod answer;
+
 ghost use mathlib.Core.Path.{_≡_};
 ghost use Rattle.outcomes.specs.Listing.{statedLength};
 use bits::size;

@@ -1,4 +1,3 @@
-pub mod Answers
 pub mod Memory
 pub mod Running
 pub mod Receiving

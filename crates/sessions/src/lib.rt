@@ -1,4 +1,3 @@
 // What our benchmark measures: a session that gets one call for each frame.
-mod answer;
 pub mod receive;
 pub mod send;

@@ -7,12 +7,12 @@ ghost use Rattle.receiving.specs.Calls.{handedBy};
 ghost use Rattle.outcomes.specs.Outcome.{outcome};
 ghost use Rattle.sessions.specs.Receiving.{framesOf, receiveOn, sessionReceiveOf};
 ghost use Rattle.sessions.specs.Run.{PutAt, Handed};
-use crate::answer::counted;
-use crate::answer::refused;
 use card::Refusal;
 use card::Verdict;
 use code::MOST_FRAMES;
 use decoder::Session;
+use outcomes::answer::counted;
+use outcomes::answer::refused;
 use receiving::Answer;
 
 // The frame that an answer hands out, if it does, put into the output at a place; the place after it.

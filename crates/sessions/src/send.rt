@@ -8,14 +8,14 @@ ghost use Rattle.encoder.specs.Outcome.{outcomeOf, published};
 ghost use Rattle.outcomes.specs.Outcome.{outcome};
 ghost use Rattle.sessions.specs.Run.{PutAt, Handed};
 ghost use Rattle.sessions.specs.Sending.{framesOf, sendOn, sessionSendOf};
-use crate::answer::counted;
-use crate::answer::refused;
 use card::Refusal;
 use card::Verdict;
 use code::MOST_FRAMES;
 use encoder::Answer;
 use encoder::Sent;
 use encoder::Session;
+use outcomes::answer::counted;
+use outcomes::answer::refused;
 
 // The frame that an answer hands out, if it does, put into the output at a place; the place after it.
 fn put(answer: Answer, output: &mut [u8], at: usize) -> usize

@@ -2,7 +2,7 @@
 use mathlib.Core.Path.{ap}
 use borrow.Author.Needs.{needs}
 use Rattle.card.specs.Outcome.{outcomeOf}
-use Rattle.burst.proofs.Answers.{answer-is, outcome-is}
+use Rattle.outcomes.proofs.Answers.{answer-is, outcome-is}
 use Rattle.outcomes.specs.Receiving.{receiveUnder, receiveOf}
 use Rattle.outcomes.proofs.Outcomes.{by-card, refused-by-card}
 use Rattle.outcomes.proofs.Received.{received}

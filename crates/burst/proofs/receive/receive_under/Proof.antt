@@ -1,15 +1,15 @@
 -- Each way out of the call by the tests that led to it.
 use Prim.Native.Nat.{_-_, _≤_, _<_}
 use mathlib.Core.Path.{sym, ap, _∙_}
+use native.Mathlib.Omega.{arith}
 use lib.ListN.{length}
 use lib.IntN.{pos}
 use borrow.Author.Needs.{needs}
 use Rattle.majority.specs.Rule.{decoded}
 use Rattle.majority.proofs.Streams.{decoded-length}
 use Rattle.burst.specs.Parts.{cardFrom}
-use native.Mathlib.Omega.{arith}
 use Rattle.burst.proofs.OneParityReceiving.{all-within}
-use Rattle.burst.proofs.Answers.{answer-is}
+use Rattle.outcomes.proofs.Answers.{answer-is, counted-is}
 use Rattle.outcomes.proofs.Outcomes.{refused-is, given-is}
 use Rattle.outcomes.proofs.Received.{receive-full, receive-short, receive-beyond, receive-given}
 use Rattle.burst.proofs.receive.receive_under.Statement.{statement}
@@ -72,7 +72,7 @@ returns-4 c number G =
     let n = c .before .before .before .before .before .before .before .before .after-first .ensures in
     let o : length (a .input .now) - a .m ≤ length (a .output .now) = rw n at (c .before .before .before .before .before .before .before .if2 .left) in
     given-is (length (a .input .now) - a .m) (decoded card (a .input .now)) (a .output .now) (decoded-length card (a .input .now))
-    (answer-is (c .counted .result) (c .counted .ok) (c .counted .ensures ∙ ap pos n)) (c .before .before .before .receive-frames .ensures number G)
+    (counted-is (c .counted .result) (c .counted .ok) (c .counted .ensures) (omega (arith, n)) ∙ ap pos n) (c .before .before .before .receive-frames .ensures number G)
     ∙ sym (receive-given card (a .input .now) (a .output .now) (c .before .before .before .before .before .before .before .before .before .if1 .left) o (sym (c .before .before .before .before .before .before .any-beyond .ensures) ∙ c .before .before .before .before .before .if3 .left))
 
 pub receive-under-spec : {M : Type 1} → statement M

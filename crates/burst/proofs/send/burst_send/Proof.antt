@@ -1,7 +1,7 @@
 use mathlib.Core.Path.{ap}
 use borrow.Author.Needs.{needs}
 use Rattle.card.specs.Outcome.{outcomeOf}
-use Rattle.burst.proofs.Answers.{answer-is, outcome-is}
+use Rattle.outcomes.proofs.Answers.{answer-is, outcome-is}
 use Rattle.outcomes.specs.Sending.{sendUnder, sendOf}
 use Rattle.outcomes.proofs.Outcomes.{by-card, refused-by-card}
 use Rattle.burst.proofs.send.burst_send.Statement.{statement}

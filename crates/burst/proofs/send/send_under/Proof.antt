@@ -1,12 +1,13 @@
 -- Each way out of the call by the tests that led to it.
 use Prim.Native.Nat.{_+_}
 use mathlib.Core.Path.{sym, _∙_}
+use native.Mathlib.Omega.{arith}
 use lib.ListN.{length}
 use borrow.Author.Needs.{needs}
 use Rattle.code.specs.Code.{sent}
 use Rattle.code.proofs.Sent.{sent-length}
 use Rattle.burst.specs.Parts.{cardFrom}
-use Rattle.burst.proofs.Answers.{answer-is}
+use Rattle.outcomes.proofs.Answers.{answer-is, counted-is}
 use Rattle.outcomes.proofs.Outcomes.{refused-is, given-is, under-full, under-short, under-beyond, under-sent}
 use Rattle.burst.proofs.send.send_under.Statement.{statement}
 use Rattle.burst.proofs.send.send_under.Tie as tie
@@ -59,7 +60,7 @@ returns-4 c counts checks number G =
     let a = c .before .before .before .before .before .before .before .before .before .before .before .args in
     let card = cardFrom number (a .generators .now) counts checks (a .k) (a .p) (a .m) in
     given-is (length (a .input .now) + a .m) (sent card (a .input .now)) (a .output .now) (sent-length card (a .input .now))
-    (answer-is (c .counted .result) (c .counted .ok) (c .counted .ensures)) (c .before .before .before .send-frames .ensures counts checks number G)
+    (counted-is (c .counted .result) (c .counted .ok) (c .counted .ensures) (omega arith)) (c .before .before .before .send-frames .ensures counts checks number G)
     ∙ sym (under-sent card (a .input .now) (a .output .now) (c .before .before .before .before .before .before .before .before .if1 .left) (c .before .before .before .before .before .before .before .if2 .left) (sym (c .before .before .before .before .before .before .any-beyond .ensures) ∙ c .before .before .before .before .before .if3 .left))
 
 pub send-under-spec : {M : Type 1} → statement M

@@ -6,7 +6,7 @@ use Rattle.card.specs.Outcome.{outcomeOf}
 use Rattle.outcomes.proofs.Outcomes.{by-card, refused-by-card}
 use Rattle.writer.specs.Outcome.{writeUnder, writeOf}
 use Rattle.writer.proofs.Carrying.{accepted-length, wrote-card}
-use Rattle.burst.proofs.Answers.{answer-is, outcome-is}
+use Rattle.outcomes.proofs.Answers.{answer-is, outcome-is}
 use Rattle.burst.proofs.write.card_write.Statement.{statement}
 use Rattle.burst.proofs.write.card_write.Tie as tie
 

@@ -5,7 +5,7 @@ use lib.IntN.{ℤ}
 use borrow.Author.Needs.{needs}
 use Rattle.outcomes.specs.Outcome.{outcome}
 use Rattle.standard.proofs.Answers.{count-most}
-use Rattle.burst.proofs.Answers.{answer-is}
+use Rattle.outcomes.proofs.Answers.{answer-is}
 use Rattle.burst.proofs.write.standard_card.Statement.{statement}
 use Rattle.burst.proofs.write.standard_card.Tie as tie
 

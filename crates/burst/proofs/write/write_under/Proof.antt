@@ -7,7 +7,7 @@ use Rattle.outcomes.specs.Outcome.{outcome}
 use Rattle.outcomes.proofs.Outcomes.{count-is}
 use Rattle.card.specs.Written.{written}
 use Rattle.writer.specs.Outcome.{writeUnder}
-use Rattle.burst.proofs.Answers.{answer-is}
+use Rattle.outcomes.proofs.Answers.{answer-is}
 use Rattle.burst.proofs.write.write_under.Statement.{statement}
 use Rattle.burst.proofs.write.write_under.Tie as tie
 

@@ -1,5 +1,5 @@
 use borrow.Author.Needs.{needs}
-use Rattle.burst.proofs.Answers.{answer-is}
+use Rattle.outcomes.proofs.Answers.{answer-is}
 use Rattle.clients.proofs.BurstClauses.{comes-out}
 use Rattle.clients.proofs.bursts.p_comes_out.Statement.{statement}
 use Rattle.clients.proofs.bursts.p_comes_out.Tie as tie

@@ -1,6 +1,6 @@
 use mathlib.Core.Path.{_∙_}
 use borrow.Author.Needs.{needs}
-use Rattle.burst.proofs.Answers.{outcome-is}
+use Rattle.outcomes.proofs.Answers.{outcome-is}
 use Rattle.clients.proofs.StandardClauses.{none-of-eight}
 use Rattle.clients.proofs.standards.no_card_of_eight_checks.Statement.{statement}
 use Rattle.clients.proofs.standards.no_card_of_eight_checks.Tie as tie

@@ -1,6 +1,6 @@
 use mathlib.Core.Path.{_∙_}
 use borrow.Author.Needs.{needs}
-use Rattle.burst.proofs.Answers.{outcome-is}
+use Rattle.outcomes.proofs.Answers.{outcome-is}
 use Rattle.clients.proofs.StandardClauses.{none-of-one}
 use Rattle.clients.proofs.standards.no_card_of_one_check.Statement.{statement}
 use Rattle.clients.proofs.standards.no_card_of_one_check.Tie as tie

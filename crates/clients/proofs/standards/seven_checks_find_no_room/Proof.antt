@@ -1,6 +1,6 @@
 use mathlib.Core.Path.{_∙_}
 use borrow.Author.Needs.{needs}
-use Rattle.burst.proofs.Answers.{outcome-is}
+use Rattle.outcomes.proofs.Answers.{outcome-is}
 use Rattle.clients.proofs.StandardClauses.{no-room-seven}
 use Rattle.clients.proofs.standards.seven_checks_find_no_room.Statement.{statement}
 use Rattle.clients.proofs.standards.seven_checks_find_no_room.Tie as tie

@@ -1,6 +1,6 @@
 use mathlib.Core.Path.{_∙_}
 use borrow.Author.Needs.{needs}
-use Rattle.burst.proofs.Answers.{outcome-is}
+use Rattle.outcomes.proofs.Answers.{outcome-is}
 use Rattle.clients.proofs.StandardClauses.{two-given}
 use Rattle.clients.proofs.standards.two_checks.Statement.{statement}
 use Rattle.clients.proofs.standards.two_checks.Tie as tie

@@ -1,7 +1,7 @@
 use mathlib.Core.Path.{ap}
 use borrow.Author.Needs.{needs}
 use Rattle.outcomes.specs.Outcome.{BurstOutcome}
-use Rattle.burst.proofs.Answers.{answer-is}
+use Rattle.outcomes.proofs.Answers.{answer-is}
 use Rattle.clients.proofs.WriterClauses.{comes-back-P}
 use Rattle.clients.proofs.written.p_fits.Statement.{statement}
 use Rattle.clients.proofs.written.p_fits.Tie as tie

@@ -5,7 +5,7 @@ use Rattle.card.specs.Outcome.{outcomeOf}
 use Rattle.decoder.specs.declared.Session.{Session}
 use Rattle.outcomes.proofs.Outcomes.{refused-is}
 use Rattle.sessions.specs.Receiving.{receiveOn, sessionReceiveOf}
-use Rattle.sessions.proofs.Answers.{answer-is, outcome-is}
+use Rattle.outcomes.proofs.Answers.{answer-is, outcome-is}
 use Rattle.sessions.proofs.Running.{under-accepted, under-refused}
 use Rattle.sessions.proofs.receive.session_receive.Statement.{statement}
 use Rattle.sessions.proofs.receive.session_receive.Tie as tie

@@ -9,7 +9,7 @@ use Rattle.encoder.specs.Sending.{openOf}
 use Rattle.encoder.specs.declared.Session.{Session}
 use Rattle.outcomes.proofs.Outcomes.{refused-is}
 use Rattle.sessions.specs.Sending.{sendOn, sessionSendOf}
-use Rattle.sessions.proofs.Answers.{answer-is, outcome-is}
+use Rattle.outcomes.proofs.Answers.{answer-is, outcome-is}
 use Rattle.sessions.proofs.Memory.{memory-most}
 use Rattle.sessions.proofs.Running.{under-accepted, under-refused}
 use Rattle.sessions.proofs.send.session_send.Statement.{statement}

@@ -3,9 +3,9 @@ use mathlib.Core.Path.{ap, _∙_}
 use native.Mathlib.Omega.{arith}
 use lib.IntN.{pos, negℤ}
 use borrow.Author.Needs.{needs}
-use Rattle.burst.proofs.Answers.{minus-fits, minus-is}
-use Rattle.burst.proofs.answer.refused.Statement.{statement}
-use Rattle.burst.proofs.answer.refused.Tie as tie
+use Rattle.outcomes.proofs.Answers.{minus-fits, minus-is}
+use Rattle.outcomes.proofs.answer.refused.Statement.{statement}
+use Rattle.outcomes.proofs.answer.refused.Tie as tie
 
 refusal-number-requires : tie.Need-refusal-number-requires
 refusal-number-requires c κs = search needs
