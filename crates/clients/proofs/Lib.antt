@@ -3,6 +3,7 @@ pub mod CheckClauses
 pub mod ReceiverClauses
 pub mod SenderClauses
 pub mod BurstClauses
+pub mod RunClauses
 pub mod ListingClauses
 pub mod RewritingClauses
 pub mod WriterClauses
