@@ -4,7 +4,7 @@
  *
  * No test of time: it fails only if two ways give other answers or frames, or refuse other cards.
  *
- * Each time is the least of many turns, all ways of a row taken in turn within a quarter of a second or a little more: long
+ * Each time is the least of many turns, all ways of a row taken in turn for 0.4 seconds: long
  * enough for most of what else the machine does to be over. A burst's length is in frames as sent, the tail included. */
 #include "bench_cards.h"
 #include "goals.h"
@@ -111,29 +111,29 @@ static void print_figures(const double ns[], int count, double parts, int places
     printf("\n");
 }
 
-static void note_burst(const struct subject *s, const double ns[], int frames, int sends, const char *what)
+static void note_burst(const struct subject *s, const double ns[], int frames, enum goal best, const char *what)
 {
     char row[48];
     if (frames < LONG_BURST)
         return;
     snprintf(row, sizeof row, "%d frames, %s", frames, what);
     if (has_one_of_each(s)) {
-        note(sends ? BEST_SENDING : BEST_RECEIVING, ns[LIBRARY] / ns[BEST], s->name, row);
-        note(SPECIALISED, ns[LIBRARY] / ns[SPECIAL], s->name, row);
+        note(best, ns[LIBRARY] / ns[BEST], s->name, row);
+        note(best == BEST_MANY_WRONG ? SPECIALISED_MANY_WRONG : SPECIALISED, ns[LIBRARY] / ns[SPECIAL], s->name, row);
     }
     if (is_longest(s))
         note(LONGEST_CARD, ns[LIBRARY] / ns[GENERIC], s->name, row);
 }
 
-static void burst_row(const struct call *call, int frames, int sends, const char *what)
+static void burst_row(const struct call *call, int frames, enum goal best, const char *what)
 {
     const struct subject *s = call->subject;
-    way *const *ways = sends ? sending_ways : receiving_ways;
+    way *const *ways = best == BEST_SENDING ? sending_ways : receiving_ways;
     int count = has_one_of_each(s) ? BURST_WAYS : SPECIAL;
     double ns[BURST_WAYS];
     compare_frames(ways, count, call);
     measure(ways, count, call, ns);
-    note_burst(s, ns, frames, sends, what);
+    note_burst(s, ns, frames, best, what);
     printf("%-9s %-26s", s->name, what);
     if (frames == SHORT_BURST)
         print_figures(ns, count, 1, 1);
@@ -144,13 +144,14 @@ static void burst_row(const struct call *call, int frames, int sends, const char
 static void burst_rows(const struct subject *s, int frames)
 {
     static const enum wrong wrong[] = {NONE, FEW, MANY};
+    static const enum goal best[] = {BEST_CLEAN, BEST_FEW_WRONG, BEST_MANY_WRONG};
     struct random r = {2};
     struct call call = call_to_send(s, &r, frames);
-    burst_row(&call, frames, 1, "send");
+    burst_row(&call, frames, BEST_SENDING, "send");
     memcpy(sent, output, (size_t)frames);
     for (int w = 0; w < (frames == SHORT_BURST ? 2 : 3); w++) {
         call = call_to_receive(s, &r, frames, wrong[w]);
-        burst_row(&call, frames, 0, receiving_row(wrong[w]));
+        burst_row(&call, frames, best[w], receiving_row(wrong[w]));
     }
 }
 

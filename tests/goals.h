@@ -3,9 +3,12 @@
 #define GOALS_H
 
 enum goal {
-    BEST_RECEIVING, /* library to best C */
-    BEST_SENDING,
-    SPECIALISED, /* library to specialised C */
+    BEST_SENDING, /* library to best C */
+    BEST_CLEAN,
+    BEST_FEW_WRONG,  /* 1 in 50 */
+    BEST_MANY_WRONG, /* 1 in 10 */
+    SPECIALISED,     /* library to specialised C */
+    SPECIALISED_MANY_WRONG,
     LONGEST_CARD, /* library to generic C */
     VITERBI, /* Viterbi decoder to library */
     SESSION, /* ns a frame */

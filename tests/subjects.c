@@ -1,13 +1,16 @@
 #include "subjects.h"
 
 struct subject subjects[SUBJECTS] = {
-    {.name = "P"}, {.name = "Q"}, {.name = "R"}, {.name = "J8m21"}, {.name = "T"}, {.name = "k3n6m12"}, {.name = "1163 B"}};
+    {.name = "P"}, {.name = "Q"}, {.name = "R"}, {.name = "std 7"}, {.name = "J8m21"},
+    {.name = "T"}, {.name = "k3n6m12"}, {.name = "1163 B"}};
 
 static void open_subject(struct subject *s)
 {
     struct random r = {1};
     if (s->name[1] == '\0')
         bench_card(s->name[0], &s->fields);
+    else if (s->name[0] == 's')
+        standard_fields(7, &s->fields);
     else if (s->name[0] == 'J')
         eight_checks_card(&s->fields);
     else if (s->name[0] == 'k')
@@ -35,5 +38,5 @@ int is_longest(const struct subject *s)
 
 int is_main(const struct subject *s)
 {
-    return (has_one_of_each(s) && s->name[0] != 'Q') || is_longest(s);
+    return (has_one_of_each(s) && s->name[0] != 'Q' && s->name[0] != 's') || is_longest(s);
 }

@@ -11,7 +11,7 @@ struct subject {
     struct fields fields;
 };
 
-enum { SUBJECTS = 7 };
+enum { SUBJECTS = 8 };
 
 extern struct subject subjects[SUBJECTS];
 
