@@ -89,18 +89,21 @@ fn fill(puts: &[u64; 32], k: usize, m: usize, input: &[u8]) -> u64
     word
 }
 
-// The least number of checks that a stream has.
-fn least_checks(counts: &[usize; 4], k: usize) -> usize
+// The least number of checks that a stream has; 0 where no stream has checks of several syndromes, since a vote is then no dearer than to count the
+// syndromes that are 1.
+fn least_checks<'a>(counts: &'a [usize; 4], left: &'a [usize; 4], k: usize) -> usize
     requires { ⌜ k ≤ 4 ⌝ }
     ensures { λ r. ⌜ AtLeast (now (counts .entry)) k r ⌝ }
 {
     let mut least: usize = 16;
+    let mut dear = false;
     let mut i = 0;
     while i < k {
         least = bits::at_most(counts[i], least);
+        dear = dear || 0 < left[i];
         i += 1;
     }
-    least
+    if dear { least } else { 0 }
 }
 
 // The errors that these syndromes decide. No syndrome is in two checks of a stream, so with few of them 1 there is no majority for any stream of so
@@ -119,10 +122,12 @@ fn voted<'a>(
         → Sorted (now (counts .entry)) checks k (now (alone .entry)) (now (several .entry)) (now (left .entry)) → AtLeast (now (counts .entry)) k least
         → r ≡ decideBy (now (counts .entry)) checks (held ∷ replicate 7 0) k 1) ⌝ }
 {
-    if least < 2 * bits::index(u32::count_ones(held)) {
-        return decide_sorted(counts, alone, several, left, held, k);
+    if 0 < least {
+        if 2 * bits::index(u32::count_ones(held)) <= least {
+            return 0;
+        }
     }
-    0
+    decide_sorted(counts, alone, several, left, held, k)
 }
 
 // How far a loop came: the frame that is handed out next, and the word with the frame m later taken in, if there is one.
@@ -249,8 +254,8 @@ pub(crate) fn receive<'a>(
     ensures { λ r. ⌜ AllHandedOut (tables (now (sums .entry)) (now (counts .entry)) (now (checks .entry)) k 1 m) (now (input .entry)) (now (output .entry)) (now (output .exit)) ⌝ }
 {
     let puts = puts(sums, k, m);
-    let least = least_checks(counts, k);
     let sorted_checks = sorted(counts, checks, k);
+    let least = least_checks(counts, &sorted_checks.left, k);
     let filled = fill(&puts, k, m, input);
     hand_out(
         filled,

@@ -7,10 +7,10 @@ use Rattle.burst.proofs.one_parity_receive.least_checks.Statement.{stat
 use Rattle.burst.proofs.one_parity_receive.least_checks.Tie as tie
 
 abbrev Inv-loop : tie.InvT-loop
-Inv-loop counts k least₀ i₀ least i = (i ≤ k) × AtLeast counts i least
+Inv-loop counts left k least₀ dear₀ i₀ least dear i = (i ≤ k) × AtLeast counts i least
 
 abbrev μ-loop : tie.MeasureT-loop
-μ-loop counts k least₀ i₀ least i = k - i
+μ-loop counts left k least₀ dear₀ i₀ least dear i = k - i
 
 loop-holds : tie.Need-loop-holds Inv-loop μ-loop
 loop-holds c = (omega arith, λ i l. absurd (omega arith))
@@ -24,6 +24,12 @@ element-copy-out-at-most c = omega arith
 at-most-requires : tie.Need-at-most-requires Inv-loop μ-loop
 at-most-requires c κs = tt
 
+mul-dear : tie.Need-mul-dear Inv-loop μ-loop
+mul-dear c = omega arith
+
+element-copy-out-dear : tie.Need-element-copy-out-dear Inv-loop μ-loop
+element-copy-out-dear c = omega arith
+
 add-i : tie.Need-add-i Inv-loop μ-loop
 add-i c = omega arith
 
@@ -32,15 +38,18 @@ loop-less c = omega arith
 
 loop-again : tie.Need-loop-again Inv-loop μ-loop
 loop-again c =
-    let l = c .before .before .before .loop in
-    let a = c .before .before .before .before .args in
-    let least = c .at-most .ensures in (
+    let l = c .before .before .before .before .loop in
+    let a = c .before .before .before .before .before .args in
+    let least = c .before .at-most .ensures in (
       omega arith,
-      below-more (λ i. c .at-most .result ≤ getD (a .counts .now) i 0) (l .i) (λ i q. omega (arith, least, l .inv .1 i q)) (omega (arith, least)),
+      below-more (λ i. c .before .at-most .result ≤ getD (a .counts .now) i 0) (l .i) (λ i q. omega (arith, least, l .inv .1 i q)) (omega (arith, least)),
     )
 
 returns : tie.Need-returns Inv-loop μ-loop
-returns c = λ i l. c .before .loop .inv .1 i (omega arith)
+returns c = λ i l. c .before .before .loop .inv .1 i (omega arith)
+
+returns-2 : tie.Need-returns-2 Inv-loop μ-loop
+returns-2 c = λ i l. omega arith
 
 pub least-checks-spec : {M : Type 1} → statement M
 least-checks-spec =
@@ -52,7 +61,10 @@ least-checks-spec =
     mul-at-most
     element-copy-out-at-most
     at-most-requires
+    mul-dear
+    element-copy-out-dear
     add-i
     loop-less
     loop-again
-    returns)
+    returns
+    returns-2)

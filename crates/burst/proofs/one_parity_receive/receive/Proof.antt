@@ -10,11 +10,11 @@ use Rattle.burst.proofs.one_parity_receive.receive.Tie as tie
 puts-requires : tie.Need-puts-requires
 puts-requires c κs = search needs
 
-least-checks-requires : tie.Need-least-checks-requires
-least-checks-requires c κs = search needs
-
 sorted-requires : tie.Need-sorted-requires
 sorted-requires c κs = search needs
+
+least-checks-requires : tie.Need-least-checks-requires
+least-checks-requires c κs = search needs
 
 fill-requires : tie.Need-fill-requires
 fill-requires c κs = search needs
@@ -27,15 +27,15 @@ same-length c = search needs
 
 returns : tie.Need-returns
 returns c =
-    let worked-out = c .before .before .before .before .before .before .before .before .before .before in
-    let a = worked-out .before .before .before .before .before .before .args in
+    let worked-out = c .before .before .before .before .before .before .before .before .before .before .before in
+    let a = worked-out .before .before .before .before .before .before .before .args in
     let T = tables (a .sums .now) (a .counts .now) (a .checks .now) (a .k) 1 (a .m) in
     let filled = c .before .before .before .before .before .before .before .before .before .fill in
-    let P = worked-out .before .before .before .puts .ensures in
+    let P = worked-out .before .before .before .before .puts .ensures in
     all-handed T (a .input .now) (a .output .now)
     (subst (λ r. Carried T (a .input .now) (a .m) r (inOne (a .m) (filled .result))) (of-zeros (a .m)) (filled .ensures (a .counts .now) (a .sums .now) (a .checks .now) P))
-    (c .before .before .hand-out .ensures (a .sums .now) (a .checks .now) P (worked-out .before .sorted .ensures) (worked-out .before .before .least-checks .ensures))
+    (c .before .before .hand-out .ensures (a .sums .now) (a .checks .now) P (worked-out .before .before .before .sorted .ensures) (worked-out .least-checks .ensures))
 
 pub receive-spec : {M : Type 1} → statement M
 receive-spec =
-    tie.close (tie.spec puts-requires least-checks-requires sorted-requires fill-requires hand-out-requires same-length returns)
+    tie.close (tie.spec puts-requires sorted-requires least-checks-requires fill-requires hand-out-requires same-length returns)

@@ -10,25 +10,25 @@ use Rattle.burst.proofs.one_parity_receive.voted.Tie as tie
 index-requires : tie.Need-index-requires
 index-requires c κs = search needs
 
-mul-if1 : tie.Need-mul-if1
-mul-if1 c = omega (arith, c .index .ensures, ones-le 32 (c .before .args .held) (omega arith))
+mul-if2 : tie.Need-mul-if2
+mul-if2 c = omega (arith, c .index .ensures, ones-le 32 (c .before .before .args .held) (omega arith))
+
+returns : tie.Need-returns
+returns c =
+    let a = c .before .before .before .args in (
+      omega arith,
+      λ number m g checks G sorted counted.
+          sym (few-held number g (a .counts .now) checks (a .k) m G (a .held) (a .least) (omega arith) counted (omega (arith, c .if2 .taken, c .before .index .ensures))),
+    )
 
 decide-sorted-requires : tie.Need-decide-sorted-requires
 decide-sorted-requires c κs = search needs
 
-returns : tie.Need-returns
-returns c = (
+returns-2 : tie.Need-returns-2
+returns-2 c = (
   sorted-small _ _ _ _ _ _ (c .decide-sorted .ensures),
   λ number m g checks G sorted counted. c .decide-sorted .ensures ∙ sorted-decides _ checks _ _ _ _ _ sorted,
 )
 
-returns-2 : tie.Need-returns-2
-returns-2 c =
-    let a = c .before .before .args in (
-      omega arith,
-      λ number m g checks G sorted counted.
-          sym (few-held number g (a .counts .now) checks (a .k) m G (a .held) (a .least) (omega arith) counted (omega (arith, c .if1 .left, c .before .index .ensures))),
-    )
-
 pub voted-spec : {M : Type 1} → statement M
-voted-spec = tie.close (tie.spec index-requires mul-if1 decide-sorted-requires returns returns-2)
+voted-spec = tie.close (tie.spec index-requires mul-if2 returns decide-sorted-requires returns-2)
