@@ -149,3 +149,18 @@ pub sorted-decides : (counts checks alone several left : List ℕ) (word k : ℕ
 unfolding decideSorted decideBy majorityBy
 sorted-decides counts checks alone several left word k S =
     from-digits-same (min k 4) _ _ (λ i l. ap (λ v. cond (ltb (min (getD counts i 0) 16) (2 * v)) 1 0) (S .same i word l))
+
+-- one stream whose checks are of one syndrome each
+votes-alone : (alone several left : List ℕ) (word : ℕ) → getD left 0 0 ≡ 0 → votesSorted alone several left 0 word ≡ dot (getD alone 0 0) word
+unfolding votesSorted parities sumBelow
+votes-alone alone several left word z =
+    ap (λ n. dot (getD alone 0 0) word + sumBelow (min n 16) (λ r. dot (getD several (0 * 16 + r) 0) word % 2)) z ∙ add-zero (dot (getD alone 0 0) word)
+
+first-digit : {x y : ℕ} → x ≡ y → x ≡ 0 + y * 1
+first-digit e = omega arith
+
+pub alone-decides : (counts alone several left : List ℕ) (word : ℕ) {n v r : ℕ} → getD left 0 0 ≡ 0 → n ≡ min (getD counts 0 0) 16 → v ≡ dot (getD alone 0 0) word
+    → r ≡ cond (ltb n (2 * v)) 1 0 → r ≡ decideSorted counts alone several left word 1
+unfolding decideSorted fromDigits sumBelow
+alone-decides counts alone several left word z en ev er =
+    first-digit (er ∙ ap₂ (λ a b. cond (ltb a (2 * b)) 1 0) en (ev ∙ sym (votes-alone alone several left word z)))

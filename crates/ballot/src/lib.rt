@@ -76,6 +76,13 @@ pub fn sorted<'a>(counts: &'a [usize; 4], checks: &'a [u32; 512], k: usize) -> B
     }
 }
 
+// How many of the mask's syndromes are 1.
+fn ones_in(mask: u32, word: u32) -> u32
+    ensures { λ r. ⌜ r ≡ dot mask word ⌝ }
+{
+    u32::count_ones(mask & word)
+}
+
 // 1 if an odd number of the mask's syndromes are 1.
 fn parity(mask: u32, word: u32) -> u32
     ensures { λ r. ⌜ r ≡ dot mask word % 2 ⌝ }
@@ -97,9 +104,8 @@ fn sorted_votes(alone: u32, several: &[u32; 64], i: usize, left: usize, word: u3
     ones
 }
 
-// The decided errors of a frame, bit i for stream i, by sorted checks on the word of its syndromes. More streams or checks than the tables have are
-// not looked at.
-pub fn decide_sorted<'a>(
+// The decided errors of a frame, stream after stream.
+fn decide_streams<'a>(
     counts: &'a [usize; 4],
     alone: &'a [u32; 4],
     several: &'a [u32; 64],
@@ -118,4 +124,24 @@ pub fn decide_sorted<'a>(
         i += 1;
     }
     errors
+}
+
+// The decided errors of a frame, bit i for stream i, by sorted checks on the word of its syndromes. More streams or checks than the tables have are
+// not looked at. One stream whose checks are of one syndrome each, as in every standard card, takes one count of ones.
+pub fn decide_sorted<'a>(
+    counts: &'a [usize; 4],
+    alone: &'a [u32; 4],
+    several: &'a [u32; 64],
+    left: &'a [usize; 4],
+    word: u32,
+    k: usize,
+) -> u32
+    ensures { λ r. ⌜ r ≡ decideSorted (now (counts .entry)) (now (alone .entry)) (now (several .entry)) (now (left .entry)) word k ⌝ }
+{
+    if k == 1 {
+        if left[0] == 0 {
+            return more_than_half(bits::at_most(counts[0], 16), ones_in(alone[0], word));
+        }
+    }
+    decide_streams(counts, alone, several, left, word, k)
 }
