@@ -1,18 +1,18 @@
 -- No syndrome is in two checks of a stream, since its parity error would be touched by both. So a stream has no more votes than there are syndromes of 1, and
 -- where these are few, nothing is decided to be wrong.
-use Prim.Native.Nat.{ℕ, suc, _+_, _-_, _*_, _%_, _^_, _≤_, _<_, min}
-use mathlib.Core.Path.{_≡_, sym, ap, ap₂, _∙_}
+use Prim.Native.Nat.{ℕ, _+_, _-_, _*_, _^_, _≤_, _<_, min}
+use mathlib.Core.Path.{_≡_, ap, ap₂, _∙_}
 use mathlib.Core.Bool.{cond}
 use mathlib.Core.Logic.{⊎-elim}
 use mathlib.Core.List.{List}
-use native.Mathlib.Nat.{mod-le, le-trans, le-of-eq, mul-le-mul-left, mul-le-mul-right, add-sub-cancel-left}
+use native.Mathlib.Nat.{mod-le, le-trans, le-of-eq, mul-le-mul-right, add-sub-cancel-left}
 use native.Mathlib.Omega.{arith}
 use lib.ListN.{getD}
 use lib.Dec.{ltb}
 use borrow.Author.Tests.{le-ltb}
 use Rattle.bits.specs.Sums.{sumBelow}
 use Rattle.bits.specs.Digits.{bit, dot, fromDigits}
-use Rattle.bits.proofs.Sums.{sum-none, sum-mono, sum-swap, sum-same, sum-scale, at-most-one}
+use Rattle.bits.proofs.Sums.{sum-none, sum-mono, sum-swap, sum-scale, at-most-one}
 use Rattle.bits.proofs.Cases.{le-or-lt}
 use Rattle.bits.proofs.Digits.{bit-le, bit-high}
 use Rattle.code.specs.Checks.{count, checkMask, touches, touchesBy, touchesInfo}

@@ -17,6 +17,7 @@ use lib.Bits.{bitAnd, bitOr, bitXor, and-le-l, and-le-r, and-lt, or-lt, or-add-a
 use lib.Count.{ones}
 use Rattle.bits.specs.Sums.{sumBelow, xorBelow}
 use Rattle.bits.specs.Digits.{bit, fromDigits, dot, shiftUp, anyBeyond}
+use Rattle.bits.proofs.Cases.{last-or-below}
 use Rattle.bits.proofs.Sums.{sum-add, sum-mod, sum-more, sum-step}
 use Rattle.bits.proofs.Digits.{bit-and, bit-xor, bit-mod, bit-shift, digits-lt, ones-sum}
 
@@ -110,6 +111,15 @@ pub mask-times-lt : (g d : ℕ) → g < 2 ^ 32 → d < 2 → g * d < 2 ^ 32
 mask-times-lt g zero h l = omega arith
 mask-times-lt g (suc zero) h l = omega arith
 mask-times-lt g (suc (suc d)) h l = absurd (omega arith)
+
+-- words of which the union has no 1 have none
+pub none-more : (f : ℕ → ℕ) (j all : ℕ) {x : ℕ} → x ≡ f j → (all ≡ 0 → (b : ℕ) → b < j → f b ≡ 0) → bitOr all x ≡ 0 → (b : ℕ) → b < j + 1 → f b ≡ 0
+none-more f j all {x} e below z b l =
+    let s = or-add-and all x in
+    let p = and-le-l all x in
+    let q = and-le-r all x in
+    let l' : b < suc j = rw add-one at l in
+    ⊎-elim (λ (w : b ≡ j). ap f w ∙ sym e ∙ omega arith) (λ w. below (omega arith) b w) (last-or-below l')
 
 -- ---- frames with a digit beyond their streams
 

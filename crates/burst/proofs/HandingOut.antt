@@ -3,7 +3,6 @@ use Prim.Native.Nat.{ℕ, suc, _+_, _-_, _^_, _≤_, _<_}
 use mathlib.Core.Path.{_≡_, refl, sym, ap, _∙_, subst}
 use mathlib.Core.Logic.{⊎-elim}
 use mathlib.Core.List.{List, _++_}
-use native.Mathlib.Numerals.{add-one}
 use native.Mathlib.Omega.{arith}
 use lib.ListN.{length, getD, set, drop, replicate}
 use Rattle.bits.specs.Sums.{upTo}
@@ -11,7 +10,7 @@ use Rattle.bits.proofs.Lists.{part-at, part-rest, part-length, part-step}
 use Rattle.code.specs.Guarantees.{Guarantees}
 use Rattle.code.specs.declared.Card.{Card}
 use Rattle.majority.specs.Rule.{decided, corrected, decoded}
-use Rattle.burst.specs.Registers.{Registers, registers, HasSums, written, TakenIn, takenOut, Corrected, NoneFrom, correctedBy}
+use Rattle.burst.specs.Registers.{Registers, registers, HasSums, TakenIn, takenOut, Corrected, NoneFrom, correctedBy}
 use Rattle.burst.specs.Held.{Before, With, Tables, cardWith, Carried, Handing, HandedOut, AllHandedOut, AllHandedFrom}
 use Rattle.burst.proofs.Following.{taken-in}
 use Rattle.burst.proofs.Waiting.{start}

@@ -3,7 +3,7 @@
 use Prim.Native.Nat.{ℕ, zero, suc, _-_, _+_, _*_, _/_, _%_, _^_, _≤_, _<_, min}
 use mathlib.Core.Path.{_≡_, refl, sym, ap, ap₂, _∙_, subst}
 use mathlib.Core.Bool.{Bool, true, false, _||_, true≢false}
-use mathlib.Core.Logic.{_⊎_, inl, inr, ⊎-elim}
+use mathlib.Core.Logic.{_⊎_, inl, inr}
 use mathlib.Core.List.{List, [], _∷_, _++_}
 use native.Mathlib.Nat.{lt-of-lt-of-le, zero-div, zero-mod, mul-le-mul-left, mod-lt, mod-eq-of-lt, div-eq-of-lt, zero-lt-suc, add-zero, add-comm, add-assoc, add-mul, mul-assoc, pow-succ', div-add-mod', div-one}
 use native.Mathlib.Numerals.{add-one}
@@ -13,7 +13,7 @@ use lib.Bits.{bitXor, xor-lt, block-half, xor-comm, xor-zero-r, xor-shifted, xor
 use lib.Count.{ones}
 use lib.Dec.{leb, ltb}
 use borrow.Author.Tests.{leb-false}
-use lib.Pow.{pow-pos, pow-mono, shl-shr, split, high, low, shl-exact, mod-mod-pow, field}
+use lib.Pow.{pow-pos, pow-mono, shl-shr, split, high, low, shl-exact}
 use Rattle.bits.specs.Sums.{sumBelow, xorBelow, upTo}
 use Rattle.bits.specs.Digits.{bit, shiftUp, anyBeyond}
 use Rattle.bits.proofs.Cases.{cond-le}
@@ -30,7 +30,7 @@ use Rattle.ballot.proofs.FewOnes.{decide-few}
 use Rattle.burst.specs.Parts.{cardFrom, EveryCard}
 use Rattle.burst.specs.Held.{tables, Handing, AllHandedOut}
 use Rattle.burst.proofs.HandingOut.{hand-turn}
-use Rattle.burst.specs.Registers.{Registers, registers, generatorSum, HasSums, parityWith, comingNext, syndromesNext, written, TakenIn, takenOut, Corrected, correctedBy, AtLeast, AllWithin, inOne, putOf, HasPuts}
+use Rattle.burst.specs.Registers.{registers, generatorSum, HasSums, parityWith, comingNext, syndromesNext, TakenIn, takenOut, Corrected, correctedBy, AtLeast, AllWithin, inOne, putOf, HasPuts}
 
 -- twice a power of two, shifted up within the word
 pub twice-is : (k w : ℕ) → k + 2 ≤ w → 2 * 2 ^ k % 2 ^ w ≡ 2 ^ (k + 1)

@@ -1,15 +1,13 @@
 -- One turn of the loop that takes a frame in: the values that it writes are those of the registers by definition.
-use Prim.Native.Nat.{ℕ, suc, _+_, _*_, _/_, _%_, _^_, _≤_, _<_}
-use mathlib.Core.Path.{_≡_, sym, ap, ap₂, _∙_}
+use Prim.Native.Nat.{ℕ, _+_, _*_, _/_, _%_, _^_, _≤_, _<_}
+use mathlib.Core.Path.{_≡_, ap, ap₂, _∙_}
 use mathlib.Core.List.{List}
-use mathlib.Core.Logic.{⊎-elim}
 use native.Mathlib.Nat.{le-refl}
-use native.Mathlib.Numerals.{add-one}
 use native.Mathlib.Omega.{arith}
 use lib.ListN.{length, getD, set}
-use lib.Bits.{bitOr, bitXor, and-le-l, and-le-r, or-add-and}
+use lib.Bits.{bitOr, bitXor}
 use Rattle.bits.specs.Digits.{shiftUp}
-use Rattle.bits.proofs.Cases.{last-or-below}
+use Rattle.bits.proofs.Words.{none-more}
 use Rattle.bits.proofs.Lists.{part-step, part-end, part-rest}
 use Rattle.burst.specs.Registers.{registers, parityWith, comingNext, syndromesNext, written, TakenIn}
 
@@ -33,16 +31,6 @@ module _ (sums coming₀ syndromes₀ : List ℕ) (k m f j : ℕ) where
       ap₂ (λ a b. bitXor (a / 2) (shiftUp (bitXor x (b / 2 ^ k / 2 ^ j) % 2) m))
       (ap (λ l. getD l j 0) q ∙ part-rest (syndromesNext sums coming₀ syndromes₀ k m f) syndromes₀ j j (le-refl j)) r
       ∙ ap (λ a. bitXor (getD syndromes₀ j 0 / 2) (shiftUp (bitXor a (f / 2 ^ k / 2 ^ j) % 2) m)) e
-
--- a union that is zero
-none-more : (f : ℕ → ℕ) (j h : ℕ) {r : ℕ} → r ≡ f j → (h ≡ 0 → (b : ℕ) → b < j → f b ≡ 0)
-    → bitOr h r ≡ 0 → (b : ℕ) → b < j + 1 → f b ≡ 0
-none-more f j h {r} e below z b l =
-    let s = or-add-and h r in
-    let p = and-le-l h r in
-    let q = and-le-r h r in
-    let l' : b < suc j = rw add-one at l in
-    ⊎-elim (λ (w : b ≡ j). ap f w ∙ sym e ∙ omega arith) (λ w. below (omega arith) b w) (last-or-below l')
 
 -- what the loop keeps: the frame is taken into the registers of the parity streams that it passed
 pub record TakingIn (sums coming₀ syndromes₀ : List ℕ) (k p m f : ℕ) (syndromes coming : List ℕ) (held j : ℕ) : Type 0 where

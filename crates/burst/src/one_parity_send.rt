@@ -1,4 +1,4 @@
-// Sending under a card with one parity stream, as most are. There is no history: one register has the parity digits to come, its lowest that of
+// Sending under a card with one parity stream, as most have. There is no history: one register has the parity digits to come, its lowest that of
 // the frame at hand, and stays in a local. The information frames and the tail have a loop each, since a test of the input's end costs time in
 // every frame.
 ghost use mathlib.Core.Path.{_≡_};

@@ -3,7 +3,7 @@ use Prim.Native.Nat.{ℕ, _-_, _≤_, _<_}
 use mathlib.Core.Path.{_≡_}
 use native.Mathlib.Omega.{arith}
 use lib.ListN.{getD}
-use Rattle.decoder.proofs.Held.{none-more}
+use Rattle.bits.proofs.Words.{none-more}
 use Rattle.decoder.proofs.registers.together.Statement.{statement}
 use Rattle.decoder.proofs.registers.together.Tie as tie
 
