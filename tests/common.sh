@@ -38,9 +38,14 @@ build_program() {
 
 # Compiles the measuring program over the libraries that are named. Functions and loops are aligned, lest a time depend on where the linker puts
 # them: it made as much as a third of the best C's.
+bench_sources=$(echo tests/{bench,bench_cards,measure,goals,subjects,plain,plain_card,plain_specialised,plain_best,cards,reference}.c)
 build_bench() {
-    $compiler $warnings -O2 -falign-functions=64 -falign-loops=64 -Iinclude tests/{bench,bench_cards,measure,goals,subjects}.c \
-        tests/{plain,plain_card,plain_specialised,plain_best,cards,reference}.c "$sessions" "$library" $(viterbi) -lm -o "$built/bench"
+    $compiler $warnings -O2 -falign-functions=64 -falign-loops=64 -Iinclude $bench_sources "$sessions" "$library" $(viterbi) -lm -o "$built/bench"
+}
+
+# Reads it as the compiler does, and links nothing.
+read_bench() {
+    $compiler $warnings -Iinclude -fsyntax-only $bench_sources
 }
 
 # What the measuring program's Viterbi decoder is compiled with, if libfec is installed.
