@@ -5,12 +5,15 @@ use Rattle.bits.specs.Sums.{sumBelow, upTo, back}
 use Rattle.bits.specs.Digits.{bit, fromDigits}
 use Rattle.bits.proofs.Sums.{all-at-most-twice}
 use Rattle.code.specs.Code.{generator, digit, parityAt, withTail, sentDigit, sentFrame, sent}
-use Rattle.code.specs.Checks.{count, checkMask, touchesInfo, touchesBy, touches}
-use Rattle.majority.specs.AsSent.{wrong, touched, wrongTouched, Correctable}
+use Rattle.code.specs.Checks.{count, checkMask, touchesInfo, touchesBy, touches, besides}
+use Rattle.code.specs.Judging.{clashes}
+use Rattle.majority.specs.Rule.{voting, voters}
+use Rattle.majority.specs.AsSent.{wrong, touched, wrongTouched}
+use Rattle.majority.specs.Plain.{Correctable}
 use Rattle.majority.specs.Edges.{Edges}
 
 pub edges : Edges Correctable
-unfolding sumBelow upTo back bit fromDigits generator digit parityAt withTail sentDigit sentFrame sent count checkMask touchesInfo touchesBy touches wrong touched wrongTouched
+unfolding sumBelow upTo back bit fromDigits generator digit parityAt withTail sentDigit sentFrame sent count checkMask touchesInfo touchesBy touches besides clashes voting voters wrong touched wrongTouched
 edges =
     record {
       P-one = all-at-most-twice _ _ _ _ refl;

@@ -4,6 +4,8 @@ pub mod Feedback
 pub mod Majority
 pub mod Linear
 pub mod Theorem
+-- nothing erased
+pub mod Plain
 pub mod Edges
 -- the second circuit
 pub mod SecondCircuit

@@ -24,42 +24,42 @@ use Rattle.code.specs.declared.Card.{Card}
 use Rattle.code.proofs.Besides.{besides-own, besides-le, own-apart}
 use Rattle.code.proofs.Frames.{digit-le}
 use Rattle.code.proofs.ParityLaws.{paritySum, parity-sum, parity-add, parity-same, parity-from}
-use Rattle.majority.specs.Rule.{syndrome, cleared, checkAt, votes, decide, decided, corrected, decoded}
+use Rattle.majority.specs.Rule.{syndrome, cleared, checkAt, voting, voters, votes, decide, decided, corrected, decoded}
 use Rattle.majority.specs.SecondCircuit.{entering, vote, votesForOne, decideDigit, decideDigits, decidedDigits, decodedByDigits}
 use Rattle.majority.proofs.Streams.{test-as-number, decided-digit, decided-none, decoded-length, decoded-at}
 use Rattle.majority.proofs.Majority.{touchedSum}
 use Rattle.majority.proofs.Linear.{checkSum, check-touched}
 
 -- ---- the majority: more votes than half, fewer, or a tie
-module _ (c : Card) (frames digits : List ℕ) (u i : ℕ) where
-  decide-more : count c i < 2 * votesForOne c frames digits u i → decideDigit c frames digits u i ≡ 1
+module _ (c : Card) (frames erased digits : List ℕ) (u i : ℕ) where
+  decide-more : voters c erased u i < 2 * votesForOne c frames erased digits u i → decideDigit c frames erased digits u i ≡ 1
   unfolding decideDigit
-  decide-more l = rw (lt-ltb (count c i) (2 * votesForOne c frames digits u i) l)
+  decide-more l = rw (lt-ltb (voters c erased u i) (2 * votesForOne c frames erased digits u i) l)
 
-  decide-fewer : 2 * votesForOne c frames digits u i < count c i → decideDigit c frames digits u i ≡ 0
+  decide-fewer : 2 * votesForOne c frames erased digits u i < voters c erased u i → decideDigit c frames erased digits u i ≡ 0
   unfolding decideDigit
-  decide-fewer l = rw (le-ltb (count c i) (2 * votesForOne c frames digits u i) (omega arith), lt-ltb (2 * votesForOne c frames digits u i) (count c i) l)
+  decide-fewer l = rw (le-ltb (voters c erased u i) (2 * votesForOne c frames erased digits u i) (omega arith), lt-ltb (2 * votesForOne c frames erased digits u i) (voters c erased u i) l)
 
-  decide-tie : 2 * votesForOne c frames digits u i ≡ count c i → decideDigit c frames digits u i ≡ digit frames i u
+  decide-tie : 2 * votesForOne c frames erased digits u i ≡ voters c erased u i → decideDigit c frames erased digits u i ≡ digit frames i u
   unfolding decideDigit
   decide-tie e =
-      rw (le-ltb (count c i) (2 * votesForOne c frames digits u i) (omega arith), le-ltb (2 * votesForOne c frames digits u i) (count c i) (omega arith))
+      rw (le-ltb (voters c erased u i) (2 * votesForOne c frames erased digits u i) (omega arith), le-ltb (2 * votesForOne c frames erased digits u i) (voters c erased u i) (omega arith))
 
   -- as a number, which `omega` reads
-  digit-as-number : decideDigit c frames digits u i
-      ≡ min (1 - (count c i - 2 * votesForOne c frames digits u i)) (digit frames i u + (2 * votesForOne c frames digits u i - count c i))
+  digit-as-number : decideDigit c frames erased digits u i
+      ≡ min (1 - (voters c erased u i - 2 * votesForOne c frames erased digits u i)) (digit frames i u + (2 * votesForOne c frames erased digits u i - voters c erased u i))
   digit-as-number =
       let r = digit-le frames i u in
       ⊎-elim
-      (λ (l : 2 * votesForOne c frames digits u i ≤ count c i).
-      ⊎-elim (λ (l' : count c i ≤ 2 * votesForOne c frames digits u i). omega (arith, decide-tie (omega arith)))
-      (λ (l' : 2 * votesForOne c frames digits u i < count c i). omega (arith, decide-fewer l')) (le-or-lt (count c i) (2 * votesForOne c frames digits u i)))
-      (λ (l : count c i < 2 * votesForOne c frames digits u i). omega (arith, decide-more l)) (le-or-lt (2 * votesForOne c frames digits u i) (count c i))
+      (λ (l : 2 * votesForOne c frames erased digits u i ≤ voters c erased u i).
+      ⊎-elim (λ (l' : voters c erased u i ≤ 2 * votesForOne c frames erased digits u i). omega (arith, decide-tie (omega arith)))
+      (λ (l' : 2 * votesForOne c frames erased digits u i < voters c erased u i). omega (arith, decide-fewer l')) (le-or-lt (voters c erased u i) (2 * votesForOne c frames erased digits u i)))
+      (λ (l : voters c erased u i < 2 * votesForOne c frames erased digits u i). omega (arith, decide-more l)) (le-or-lt (2 * votesForOne c frames erased digits u i) (voters c erased u i))
 
-  decide-digit-le : decideDigit c frames digits u i ≤ 1
+  decide-digit-le : decideDigit c frames erased digits u i ≤ 1
   decide-digit-le = omega (arith, digit-as-number, digit-le frames i u)
 
-  decide-digit-lt : decideDigit c frames digits u i < 2
+  decide-digit-lt : decideDigit c frames erased digits u i < 2
   decide-digit-lt = omega (arith, decide-digit-le)
 
 -- the digit i at u alone, out of all that are received
@@ -176,68 +176,73 @@ module _ (c : Card) (frames errors digits : List ℕ) (u : ℕ)
   unfolding vote
   vote-le q = omega arith
 
-  -- the votes for 1 are the checks equal to 1 where the received digit is 0 ..
-  votes-of-zero : digit frames i u ≡ 0 → votesForOne c frames digits u i ≡ votes c frames errors u i
-  unfolding votesForOne votes
-  votes-of-zero z = sum-same (count c i) _ _ (λ q lq. omega (arith, check-vote q lq, vote-le q))
+  module _ (erased : List ℕ) where
+    -- the votes for 1 are the voting checks equal to 1 where the received digit is 0 ..
+    votes-of-zero : digit frames i u ≡ 0 → votesForOne c frames erased digits u i ≡ votes c frames erased errors u i
+    unfolding votesForOne votes
+    votes-of-zero z =
+        sum-same (count c i) _ _
+        (λ q lq. let e : vote c frames digits u i q ≡ checkAt c frames errors u i q = omega (arith, check-vote q lq, vote-le q) in ap (λ x. voting c erased u i q * x) e)
 
-  -- .. and the other checks where it is 1
-  votes-of-one : digit frames i u ≡ 1 → votesForOne c frames digits u i + votes c frames errors u i ≡ count c i
-  unfolding votesForOne votes
-  votes-of-one z =
-      sym (sum-add (count c i) _ _)
-      ∙ sum-same (count c i) _ (λ q. 1) (λ q lq. omega (arith, check-vote q lq, vote-le q))
-      ∙ sum-const (count c i) 1
-      ∙ mul-one (count c i)
+    -- .. and the other voting checks where it is 1
+    votes-of-one : digit frames i u ≡ 1 → votesForOne c frames erased digits u i + votes c frames erased errors u i ≡ voters c erased u i
+    unfolding votesForOne votes voters
+    votes-of-one z =
+        sym (sum-add (count c i) (λ q. voting c erased u i q * vote c frames digits u i q) (λ q. voting c erased u i q * checkAt c frames errors u i q))
+        ∙ sum-same (count c i) _ _
+        (λ q lq.
+        let e : vote c frames digits u i q + checkAt c frames errors u i q ≡ 1 = omega (arith, check-vote q lq, vote-le q) in
+        sym (mul-add (voting c erased u i q) _ _) ∙ ap (λ x. voting c erased u i q * x) e ∙ mul-one _)
 
-  -- the digit is the received one plus the error that the first circuit decides
-  digit-decided : decideDigit c frames digits u i ≡ (digit frames i u + decide c frames errors u i) % 2
-  unfolding decide
-  digit-decided = go (decLt 0 (digit frames i u))
-    where
-      go : Dec (0 < digit frames i u) → decideDigit c frames digits u i ≡ (digit frames i u + decide c frames errors u i) % 2
-      go (yes l) = let r = digit-le frames i u in let e = votes-of-one (omega arith) in rw (test-as-number, digit-as-number c frames digits u i) (omega arith)
-      go (no n) = let e = votes-of-zero (omega arith) in rw (test-as-number, digit-as-number c frames digits u i) (omega arith)
+    -- the digit is the received one plus the error that the first circuit decides
+    digit-decided : decideDigit c frames erased digits u i ≡ (digit frames i u + decide c frames erased errors u i) % 2
+    unfolding decide
+    digit-decided = go (decLt 0 (digit frames i u))
+      where
+        go : Dec (0 < digit frames i u) → decideDigit c frames erased digits u i ≡ (digit frames i u + decide c frames erased errors u i) % 2
+        go (yes l) =
+            let r = digit-le frames i u in let e = votes-of-one (omega arith) in rw (test-as-number, digit-as-number c frames erased digits u i) (omega arith)
+        go (no n) = let e = votes-of-zero (omega arith) in rw (test-as-number, digit-as-number c frames erased digits u i) (omega arith)
 
 -- ---- the streams
-module _ (c : Card) (frames : List ℕ) where
-  pub digits-length : (n : ℕ) → length (decidedDigits c frames n) ≡ n
+module _ (c : Card) (frames erased : List ℕ) where
+  pub digits-length : (n : ℕ) → length (decidedDigits c frames erased n) ≡ n
   unfolding decidedDigits
-  digits-length n = grown-length (decideDigits c frames) n
+  digits-length n = grown-length (decideDigits c frames erased) n
 
   -- what is decided stays
-  pub digits-at : (n u : ℕ) → u < n → getD (decidedDigits c frames n) u 0 ≡ decideDigits c frames (decidedDigits c frames u) u
+  pub digits-at : (n u : ℕ) → u < n → getD (decidedDigits c frames erased n) u 0 ≡ decideDigits c frames erased (decidedDigits c frames erased u) u
   unfolding decidedDigits
-  digits-at n u l = grown-at (decideDigits c frames) n u l
+  digits-at n u l = grown-at (decideDigits c frames erased) n u l
 
-  digit-stays : (n u i : ℕ) → u < n → i < c .k → digit (decidedDigits c frames n) i u ≡ decideDigit c frames (decidedDigits c frames u) u i
+  digit-stays : (n u i : ℕ) → u < n → i < c .k → digit (decidedDigits c frames erased n) i u ≡ decideDigit c frames erased (decidedDigits c frames erased u) u i
   unfolding digit decideDigits
   digit-stays n u i l li =
-      ap (λ x. bit x i) (digits-at n u l) ∙ bit-from-digits (c .k) _ (λ s ls. decide-digit-lt c frames (decidedDigits c frames u) u s) i li
+      ap (λ x. bit x i) (digits-at n u l) ∙ bit-from-digits (c .k) _ (λ s ls. decide-digit-lt c frames erased (decidedDigits c frames erased u) u s) i li
 
-module _ (c : Card) (G : Guarantees c) (frames : List ℕ) where
+module _ (c : Card) (G : Guarantees c) (frames erased : List ℕ) where
   -- one frame after the other, the decided digits are the received ones plus the decided errors
-  digits-are : (n v i : ℕ) → i < c .k → v < n → digit (decidedDigits c frames n) i v ≡ (digit frames i v + digit (decided c frames n) i v) % 2
+  digits-are : (n v i : ℕ) → i < c .k → v < n → digit (decidedDigits c frames erased n) i v ≡ (digit frames i v + digit (decided c frames erased n) i v) % 2
   digits-are zero v i li l = absurd (omega arith)
   digits-are (suc n) v i li l =
-      digit-stays c frames (suc n) v i l li
+      digit-stays c frames erased (suc n) v i l li
       ∙ ⊎-elim
       (λ e.
       rw e
-      (digit-decided c frames (decided c frames n) (decidedDigits c frames n) n (λ w s ls lw. digits-are n w s ls lw) (decided-none c frames n) i li
-      (G .orthogonal i li .own)))
-      (λ below. sym (digit-stays c frames n v i below li) ∙ digits-are n v i li below ∙ ap (λ x. (digit frames i v + x) % 2) (decided-digit c frames n v i below li))
+      (digit-decided c frames (decided c frames erased n) (decidedDigits c frames erased n) n (λ w s ls lw. digits-are n w s ls lw) (decided-none c frames erased n) i li
+      (G .orthogonal i li .own) erased))
+      (λ below. sym (digit-stays c frames erased n v i below li) ∙ digits-are n v i li below ∙ ap (λ x. (digit frames i v + x) % 2) (decided-digit c frames erased n v i below li))
       (last-or-below l)
-      ∙ ap (λ x. (digit frames i v + x) % 2) (sym (decided-digit c frames (suc n) v i l li))
+      ∙ ap (λ x. (digit frames i v + x) % 2) (sym (decided-digit c frames erased (suc n) v i l li))
 
 -- the theorem: for every stream the two circuits hand out the same frames
-pub circuits-agree : (c : Card) → Guarantees c → (frames : List ℕ) → decodedByDigits c frames ≡ decoded c frames
+pub circuits-agree : (c : Card) → Guarantees c → (frames erased : List ℕ) → decodedByDigits c frames erased ≡ decoded c frames erased
 unfolding decodedByDigits decideDigits corrected
-circuits-agree c G frames =
+circuits-agree c G frames erased =
     let n = length frames - c .m in
-    ext-getD 0 _ _ (digits-length c frames n ∙ sym (decoded-length c frames))
+    ext-getD 0 _ _ (digits-length c frames erased n ∙ sym (decoded-length c frames erased))
     (λ u lu.
-    let l : u < n = omega (arith, digits-length c frames n) in
-    digits-at c frames n u l
-    ∙ from-digits-same (c .k) _ _ (λ i li. sym (digit-stays c frames n u i l li) ∙ digits-are c G frames n u i li l)
-    ∙ sym (decoded-at c frames u l))
+    let l : u < n = omega (arith, digits-length c frames erased n) in
+    digits-at c frames erased n u l
+    ∙ from-digits-same (c .k) _ _ (λ i li. sym (digit-stays c frames erased n u i l li) ∙ digits-are c G frames erased n u i li l)
+    ∙ sym (decoded-at c frames erased u l))

@@ -2,7 +2,7 @@
 use Prim.Native.Nat.{ℕ, suc, _+_, _*_, _/_, _%_, _^_, _≤_, _<_, min, zero-le}
 use mathlib.Core.Bool.{cond}
 use mathlib.Core.Path.{_≡_, sym, ap, ap₂, _∙_}
-use mathlib.Core.List.{List}
+use mathlib.Core.List.{List, []}
 use native.Mathlib.Nat.{mod-lt, zero-lt-suc, lt-of-lt-of-le}
 use native.Mathlib.Numerals.{add-one}
 use native.Mathlib.Omega.{arith}
@@ -21,8 +21,11 @@ use Rattle.bits.proofs.Words.{shift-digit}
 use Rattle.code.specs.Checks.{count, checkMask}
 use Rattle.code.specs.Guarantees.{Guarantees}
 use Rattle.code.specs.declared.Card.{Card}
-use Rattle.majority.specs.Rule.{cleared, checkAt, votes, decide, decideFrame}
+use Rattle.majority.specs.Rule as Rule
+use Rattle.majority.specs.Rule.{cleared, checkAt, decide}
+use Rattle.majority.specs.Plain.{decideFrame, NoneErased}
 use Rattle.majority.specs.Voting.{checkBy, votesBy, majorityBy, decideBy}
+use Rattle.majority.proofs.Plain.{none-erased, decide-plain}
 
 -- the ones of what two words have in common
 pub ones-of-common : (x y : ℕ) {z : ℕ} → z ≡ bitAnd x y → z < 2 ^ 32 → ones z ≡ dot x y
@@ -129,7 +132,7 @@ module _ (counts checks syndromes : List ℕ) (k p : ℕ) where
 module _ (c : Card) (G : Guarantees c) (frames errors : List ℕ) (u : ℕ) (syndromes : List ℕ)
     (held : (j a : ℕ) → j < c .p → a ≤ c .m → bit (getD syndromes j 0) a ≡ cleared c frames errors (u + a) j)
     (beyond : (j a : ℕ) → j < c .p → c .m < a → bit (getD syndromes j 0) a ≡ 0) where
-  check-is : (i q : ℕ) → checkBy (c .checks) (i * 128 + q * 8) syndromes (c .p) ≡ checkAt c frames errors u i q
+  pub check-is : (i q : ℕ) → checkBy (c .checks) (i * 128 + q * 8) syndromes (c .p) ≡ checkAt c frames errors u i q
   unfolding checkBy checkAt dot checkMask
   check-is i q = ap (λ x. x % 2) (sum-same (c .p) _ _ part)
     where
@@ -141,15 +144,20 @@ module _ (c : Card) (G : Guarantees c) (frames errors : List ℕ) (u : ℕ) (syn
           (λ a l. ap (λ x. bit g a * x) (beyond j a hj (omega arith)) ∙ omega arith)
           ∙ sum-same (suc (c .m)) _ _ (λ a l. ap (λ x. bit g a * x) (held j a hj (omega arith)))
 
-  majority-is : (i : ℕ) → majorityBy (c .checks) syndromes (c .p) i (count c i) ≡ decide c frames errors u i
-  unfolding majorityBy votesBy decide votes
-  majority-is i = ap (λ x. cond (ltb (count c i) (2 * x)) 1 0) (sum-cong (count c i) (λ q. check-is i q))
+  -- .. where nothing that the decision looks at is erased
+  module _ (erased : List ℕ) (none : NoneErased c erased u) where
+    majority-is : (i : ℕ) → majorityBy (c .checks) syndromes (c .p) i (count c i) ≡ decide c frames erased errors u i
+    unfolding majorityBy votesBy
+    majority-is i = ap (λ x. cond (ltb (count c i) (2 * x)) 1 0) (sum-cong (count c i) (λ q. check-is i q)) ∙ sym (decide-plain c erased u none frames errors i)
+
+    pub decide-unerased : decideBy (c .counts) (c .checks) syndromes (c .k) (c .p) ≡ Rule.decideFrame c frames erased errors u
+    unfolding decideBy Rule.decideFrame count
+    decide-unerased =
+        let ek : min (c .k) 4 ≡ c .k = omega (arith, G .k-most) in
+        let ep : min (c .p) 8 ≡ c .p = omega (arith, G .n-most) in
+        ap₂ (λ k p. fromDigits k (λ i. majorityBy (c .checks) syndromes p i (min (getD (c .counts) i 0) 16))) ek ep
+        ∙ from-digits-same (c .k) _ _
+        (λ i l. let e : min (getD (c .counts) i 0) 16 ≡ getD (c .counts) i 0 = omega (arith, G .J-most i) in ap (λ n. majorityBy (c .checks) syndromes (c .p) i n) e ∙ majority-is i)
 
   pub decide-is : decideBy (c .counts) (c .checks) syndromes (c .k) (c .p) ≡ decideFrame c frames errors u
-  unfolding decideBy decideFrame count
-  decide-is =
-      let ek : min (c .k) 4 ≡ c .k = omega (arith, G .k-most) in
-      let ep : min (c .p) 8 ≡ c .p = omega (arith, G .n-most) in
-      ap₂ (λ k p. fromDigits k (λ i. majorityBy (c .checks) syndromes p i (min (getD (c .counts) i 0) 16))) ek ep
-      ∙ from-digits-same (c .k) _ _
-      (λ i l. let e : min (getD (c .counts) i 0) 16 ≡ getD (c .counts) i 0 = omega (arith, G .J-most i) in ap (λ n. majorityBy (c .checks) syndromes (c .p) i n) e ∙ majority-is i)
+  decide-is = decide-unerased [] (none-erased c u)

@@ -1,5 +1,6 @@
 pub mod Rule
 pub mod SecondCircuit
 pub mod AsSent
+pub mod Plain
 pub mod Voting
 pub mod Edges
