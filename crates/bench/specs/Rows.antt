@@ -11,7 +11,7 @@ use Rattle.code.specs.Code.{sent}
 use Rattle.card.specs.Outcome.Outcome.{accepted, refused}
 use Rattle.card.specs.Reading.{readUnder, readCard}
 use Rattle.card.specs.declared.CardRule.the-variants.{Former}
-use Rattle.majority.specs.Rule.{decoded}
+use Rattle.majority.specs.Plain.{decoded}
 use Rattle.receiving.specs.Answers.{waiting}
 use Rattle.receiving.specs.Calls.{answersBy}
 use Rattle.outcomes.specs.Receiving.{receiveOf}

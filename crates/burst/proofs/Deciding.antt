@@ -21,10 +21,12 @@ use Rattle.bits.proofs.Digits.{bit-lt, bit-mod, bit-xor, bit-of-zero, from-digi
 use Rattle.code.specs.Code.{generator, digit}
 use Rattle.code.specs.Guarantees.{Guarantees}
 use Rattle.code.specs.declared.Card.{Card}
-use Rattle.majority.specs.Rule.{cleared, decideFrame, decided, corrected}
+use Rattle.majority.specs.Rule.{cleared, corrected}
+use Rattle.majority.specs.Rule as Rule
+use Rattle.majority.specs.Plain.{decideFrame, decided}
 use Rattle.majority.specs.Voting.{decideBy}
 use Rattle.majority.proofs.Voting.{decide-lt, decide-lt-k, decide-is}
-use Rattle.majority.proofs.Streams.{decided-length, decided-at}
+use Rattle.majority.proofs.Plain.{decided-length, decided-at}
 use Rattle.majority.proofs.Feedback.{cleared-fed}
 use Rattle.burst.specs.Registers.{Registers, registers, HasSums, takenOut, Corrected, correctedBy}
 use Rattle.burst.specs.Held.{syndromeHeld, Before, With}
@@ -82,7 +84,7 @@ module _ (c : Card) (G : Guarantees c) (frames : List ℕ) (t : ℕ) (r : Regist
 
     fed-then : (j a : ℕ) → j < c .p → a < c .m
         → (bit (getD (r .syndromes) j 0) (suc a) + sumBelow (c .k) (λ i. generator c i j (suc a) * bit errors i)) % 2 ≡ syndromeHeld c frames (suc t) j a
-    unfolding decided grown syndromeHeld
+    unfolding Rule.decided grown syndromeHeld
     fed-then j a hj ha =
         let u = t - c .m in
         let before = decided c frames u in

@@ -21,8 +21,9 @@ use Rattle.bits.proofs.Words.{shift-digit}
 use Rattle.code.specs.Code.{generator, digit, parityAt}
 use Rattle.code.specs.Guarantees.{Guarantees}
 use Rattle.code.specs.declared.Card.{Card}
-use Rattle.majority.specs.Rule.{syndrome, cleared, decided}
-use Rattle.majority.proofs.Streams.{decided-length}
+use Rattle.majority.specs.Rule.{syndrome, cleared}
+use Rattle.majority.specs.Plain.{decided}
+use Rattle.majority.proofs.Plain.{decided-length}
 use Rattle.majority.proofs.Feedback.{syndrome-lt, cleared-lt, cleared-new}
 use Rattle.burst.specs.Registers.{Registers, HasSums, parityWith, comingNext, syndromesNext, TakenIn}
 use Rattle.burst.specs.Held.{comingAt, syndromeHeld, Before, With}

@@ -9,7 +9,9 @@ use Rattle.bits.specs.Sums.{upTo}
 use Rattle.bits.proofs.Lists.{part-at, part-rest, part-length, part-step}
 use Rattle.code.specs.Guarantees.{Guarantees}
 use Rattle.code.specs.declared.Card.{Card}
-use Rattle.majority.specs.Rule.{decided, corrected, decoded}
+use Rattle.majority.specs.Rule.{corrected}
+use Rattle.majority.specs.Rule as Rule
+use Rattle.majority.specs.Plain.{decided, decoded}
 use Rattle.burst.specs.Registers.{Registers, registers, HasSums, TakenIn, takenOut, Corrected, NoneFrom, correctedBy}
 use Rattle.burst.specs.Held.{Before, With, Tables, cardWith, Carried, Handing, HandedOut, AllHandedOut, AllHandedFrom}
 use Rattle.burst.proofs.Following.{taken-in}
@@ -71,7 +73,7 @@ module _ (tables : Tables) (frames : List ℕ) where
   -- all that a burst hands out, from registers that were ready for the frame of time m
   pub all-from : {output output' : List ℕ} {filled after : Registers} → HandedOut tables frames 0 (length frames - tables .m) filled after output output'
       → AllHandedFrom filled tables frames output output'
-  unfolding decoded upTo
+  unfolding Rule.decoded upTo
   all-from {output} {filled = filled} handed g e number G B =
       let z : tables .m ≡ 0 + tables .m = omega arith in
       handed g e number G output refl (subst (λ t. Before (cardWith number g tables) frames t filled) z B, refl) .1
@@ -83,7 +85,7 @@ module _ (tables : Tables) (frames : List ℕ) where
 
 -- a burst of fewer than m frames
 pub none-handed : (c : Card) (frames output : List ℕ) → length frames < c .m → output ≡ decoded c frames ++ drop (length frames - c .m) output
-unfolding decoded upTo
+unfolding Rule.decoded upTo
 none-handed c frames output h =
     let z : length frames - c .m ≡ 0 = omega arith in
     sym (ap (λ n. upTo n (corrected c frames (decided c frames (length frames - c .m))) ++ drop n output) z)

@@ -22,7 +22,7 @@ use Rattle.bits.proofs.Words.{shift-digit}
 use Rattle.code.specs.Checks.{count}
 use Rattle.code.specs.Guarantees.{Guarantees}
 use Rattle.code.specs.declared.Card.{Card}
-use Rattle.majority.specs.Rule.{decoded}
+use Rattle.majority.specs.Plain.{decoded}
 use Rattle.majority.specs.Voting.{decideBy}
 use Rattle.ballot.specs.Ballot.{votesSorted, decideSorted}
 use Rattle.majority.proofs.Voting.{decide-lt-k, decide-none}

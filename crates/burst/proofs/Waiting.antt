@@ -15,7 +15,8 @@ use Rattle.bits.proofs.Back.{back-out, back-suc}
 use Rattle.bits.proofs.Cases.{le-or-lt}
 use Rattle.bits.proofs.Digits.{bit-of-zero}
 use Rattle.code.specs.declared.Card.{Card}
-use Rattle.majority.specs.Rule.{cleared, decided}
+use Rattle.majority.specs.Rule.{cleared}
+use Rattle.majority.specs.Plain.{decided}
 use Rattle.burst.specs.Registers.{Registers, registers, comingNext, syndromesNext, TakenIn, NoneFrom}
 use Rattle.burst.specs.Held.{syndromeHeld, Before, With, Tables, cardWith, Carried}
 use Rattle.burst.proofs.Coming.{coming-start}

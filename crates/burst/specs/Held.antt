@@ -12,7 +12,8 @@ use Rattle.bits.specs.Sums.{sumBelow, back}
 use Rattle.bits.specs.Digits.{bit}
 use Rattle.code.specs.Code.{generator, digit}
 use Rattle.code.specs.declared.Card.{Card}
-use Rattle.majority.specs.Rule.{cleared, decided, corrected, decoded}
+use Rattle.majority.specs.Rule.{cleared, corrected}
+use Rattle.majority.specs.Plain.{decided, decoded}
 use Rattle.burst.specs.Registers.{Registers, HasSums, written, HasPuts}
 use Rattle.burst.specs.Parts.{cardFrom, EveryCard}
 

@@ -12,8 +12,8 @@ use Rattle.card.specs.Outcome.{Outcome}
 use Rattle.card.specs.Reading.{readCard}
 use Rattle.code.specs.Code.{mostFrames}
 use Rattle.code.specs.declared.Card.{Card}
-use Rattle.majority.specs.Rule.{decoded}
-use Rattle.majority.proofs.Streams.{decoded-length}
+use Rattle.majority.specs.Plain.{decoded}
+use Rattle.majority.proofs.Plain.{decoded-length}
 use Rattle.outcomes.specs.Claims.{Admitted}
 use Rattle.outcomes.specs.Outcome.{BurstOutcome, outcome, givenOf, underCard}
 use Rattle.outcomes.specs.Receiving.{receiveUnder, receiveOf}

@@ -10,7 +10,7 @@ ghost use lib.ListN.{length, take, drop};
 ghost use Rattle.bits.specs.Digits.{anyBeyond};
 ghost use Rattle.card.specs.Outcome.Outcome.{accepted};
 ghost use Rattle.card.specs.Reading.{readCard};
-ghost use Rattle.majority.specs.Rule.{decoded};
+ghost use Rattle.majority.specs.Plain.{decoded};
 ghost use Rattle.outcomes.specs.Claims.{Admitted};
 ghost use Rattle.outcomes.specs.Listing.{firstBeyond, listingOf, listingUnder};
 ghost use Rattle.listing.specs.Promise.{Lists};

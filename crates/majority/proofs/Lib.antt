@@ -7,6 +7,7 @@ pub mod Theorem
 -- nothing erased
 pub mod Plain
 pub mod Edges
+pub mod Erased
 -- the second circuit
 pub mod SecondCircuit
 -- the link figure

@@ -1,6 +1,7 @@
 -- Streams at the edge of the third term's condition, which pin it: each that just meets it, and with one wrong digit more does not.
 -- The condition is a parameter: `Correctable` here, and what a burst asks of its input (`outcomes`, `Claims.SentAs`).
--- `Meets c info frames` is about the frames received where the code c sent the information frames `info`, and the tail.
+-- `Meets c info frames` is about the frames received where the code c sent the information frames `info`, and the tail; in `ErasedEdges` it is told as well
+-- which of their digits are erased.
 -- Where zeros are sent, the digits of a frame received are the wrong ones. A frame's information digit is 1 and its parity digit 2, for P, Q and R; for T
 -- 1 and 2 are the information digits, 4 is the parity digit.
 -- Assumes nothing.
@@ -32,3 +33,36 @@ pub record Edges (Meets : Card → List ℕ → List ℕ → Type 0) : Type 0 wh
   pub T-one-each : Meets T (3 ∷ []) (3 ∷ 0 ∷ 0 ∷ [])
   pub T-two-for-stream-1 : Meets T (3 ∷ []) (3 ∷ 2 ∷ 0 ∷ []) → ⊥
   pub T-two-for-stream-2 : Meets T (3 ∷ []) (3 ∷ 0 ∷ 1 ∷ []) → ⊥
+
+-- with erased digits, which are received as 0. A check touches: of P, s0 the own digit and its parity digit, s1 the own digit and both of the next frame; of Q,
+-- s0 and s1 as of P, s3 the own digit, the information digits 2 and 3 frames later, and the parity digit 3 frames later
+pub record ErasedEdges (Meets : Card → List ℕ → List ℕ → List ℕ → Type 0) : Type 0 where
+  -- Q, in what is sent for 1 as 3, 2, 0, 2. Frame 1 is lost: s1 does not vote, two votes stand one wrong digit, and the lost one is none of them
+  pub Q-frame-lost : Meets Q (1 ∷ []) (1 ∷ 0 ∷ 0 ∷ 2 ∷ []) (0 ∷ 3 ∷ 0 ∷ 0 ∷ [])
+  pub Q-frame-lost-two : Meets Q (1 ∷ []) (1 ∷ 0 ∷ 0 ∷ 0 ∷ []) (0 ∷ 3 ∷ 0 ∷ 0 ∷ []) → ⊥
+  -- the same frames with nothing erased do not meet it
+  pub Q-frame-not-lost : Meets Q (1 ∷ []) (1 ∷ 0 ∷ 0 ∷ 2 ∷ []) [] → ⊥
+  -- one vote stands none: the parity digits of times 0 and 1 are erased
+  pub Q-one-vote : Meets Q (1 ∷ []) (1 ∷ 0 ∷ 0 ∷ 2 ∷ []) (2 ∷ 2 ∷ 0 ∷ 0 ∷ [])
+  pub Q-one-vote-one : Meets Q (1 ∷ []) (1 ∷ 0 ∷ 0 ∷ 0 ∷ []) (2 ∷ 2 ∷ 0 ∷ 0 ∷ []) → ⊥
+  -- the own digit is erased: all three vote, and it is wrong if 1 was sent
+  pub Q-own : Meets Q (1 ∷ []) (2 ∷ 2 ∷ 0 ∷ 2 ∷ []) (1 ∷ 0 ∷ 0 ∷ 0 ∷ [])
+  pub Q-own-and-one : Meets Q (1 ∷ []) (2 ∷ 0 ∷ 0 ∷ 2 ∷ []) (1 ∷ 0 ∷ 0 ∷ 0 ∷ []) → ⊥
+  pub Q-own-of-zero : Meets Q (0 ∷ []) (2 ∷ 0 ∷ 0 ∷ 0 ∷ []) (1 ∷ 0 ∷ 0 ∷ 0 ∷ [])
+  -- none votes: the own digit alone counts, and must be right
+  pub Q-no-vote : Meets Q (1 ∷ []) (1 ∷ 0 ∷ 0 ∷ 0 ∷ []) (2 ∷ 2 ∷ 0 ∷ 2 ∷ [])
+  pub Q-no-vote-own : Meets Q (0 ∷ []) (1 ∷ 0 ∷ 0 ∷ 0 ∷ []) (2 ∷ 2 ∷ 0 ∷ 2 ∷ []) → ⊥
+  pub Q-all-lost : Meets Q (0 ∷ []) (0 ∷ 0 ∷ 0 ∷ 0 ∷ []) (3 ∷ 3 ∷ 3 ∷ 3 ∷ [])
+  pub Q-all-lost-of-one : Meets Q (1 ∷ []) (0 ∷ 0 ∷ 0 ∷ 0 ∷ []) (3 ∷ 3 ∷ 3 ∷ 3 ∷ []) → ⊥
+  -- P, in what is sent for 0, 1 as 0, 3, 2. Frame 0 is lost: once it is decided, both checks vote on digit 1 and stand one wrong digit
+  pub P-decided : Meets P (0 ∷ 1 ∷ []) (0 ∷ 3 ∷ 0 ∷ []) (3 ∷ 0 ∷ 0 ∷ [])
+  pub P-decided-two : Meets P (0 ∷ 1 ∷ []) (0 ∷ 3 ∷ 1 ∷ []) (3 ∷ 0 ∷ 0 ∷ []) → ⊥
+  -- the tail's information digit is erased, and s1 does not vote on the last digit
+  pub P-tail : Meets P (1 ∷ 0 ∷ 1 ∷ []) (3 ∷ 3 ∷ 3 ∷ 2 ∷ []) (0 ∷ 0 ∷ 0 ∷ 1 ∷ [])
+  pub P-tail-last : Meets P (1 ∷ 0 ∷ 1 ∷ []) (3 ∷ 2 ∷ 1 ∷ 2 ∷ []) (0 ∷ 0 ∷ 0 ∷ 1 ∷ []) → ⊥
+  -- T, in what is sent for 3 as 3, 4, 4: nothing is erased
+  pub T-one-each : Meets T (3 ∷ []) (3 ∷ 0 ∷ 0 ∷ []) (0 ∷ 0 ∷ 0 ∷ [])
+  -- the digit of stream 2 is erased: s0 votes for stream 2, whose own it is, and does not for stream 1
+  pub T-other-stream : Meets T (3 ∷ []) (1 ∷ 4 ∷ 4 ∷ []) (2 ∷ 0 ∷ 0 ∷ [])
+  pub T-other-stream-one : Meets T (3 ∷ []) (1 ∷ 0 ∷ 4 ∷ []) (2 ∷ 0 ∷ 0 ∷ []) → ⊥
+  pub T-other-stream-two : Meets T (3 ∷ []) (1 ∷ 4 ∷ 0 ∷ []) (2 ∷ 0 ∷ 0 ∷ []) → ⊥

@@ -4,3 +4,4 @@ pub mod AsSent
 pub mod Plain
 pub mod Voting
 pub mod Edges
+pub mod Erased

@@ -6,7 +6,7 @@ use lib.ListN.{length, getD}
 use Rattle.bits.specs.Sums.{sumBelow}
 use Rattle.bits.proofs.Sums.{all-at-most}
 use Rattle.code.specs.declared.Card.{Card}
-use Rattle.majority.specs.AsSent.{Correctable}
+use Rattle.majority.specs.Plain.{Correctable}
 use Rattle.majority.specs.Edges.{Edges}
 use Rattle.majority.proofs.Edges as majority
 use Rattle.outcomes.specs.Claims.{SentAs}

@@ -14,7 +14,7 @@ use Rattle.bits.proofs.Cases.{le-or-lt}
 use Rattle.card.specs.Outcome.{accepted}
 use Rattle.card.specs.Reading.{readCard}
 use Rattle.code.specs.declared.Card.{Card}
-use Rattle.majority.specs.Rule.{decoded}
+use Rattle.majority.specs.Plain.{decoded}
 use Rattle.outcomes.specs.Listing.{statedLength, cardBytes, frameBytes, tooLong, tooLongLine, refusedLine, cardLine, frameLines, endLine, firstBeyond, listingOf, listingUnder, listing}
 use Rattle.outcomes.proofs.Beyond.{beyond-some}
 

@@ -17,9 +17,9 @@ use Rattle.card.specs.Reading.{readCard}
 use Rattle.code.specs.declared.Card.{Card}
 use Rattle.card.specs.declared.CardRead.{CardRead}
 use Rattle.card.specs.declared.CardRule.the-variants.{Present}
-use Rattle.majority.specs.Rule.{decoded}
-use Rattle.majority.proofs.Streams.{decoded-length}
-use Rattle.majority.proofs.Theorem.{decoded-as-sent}
+use Rattle.majority.specs.Plain.{decoded}
+use Rattle.majority.proofs.Plain.{decoded-length}
+use Rattle.majority.proofs.Plain.{decoded-as-sent}
 use Rattle.outcomes.specs.Outcome.{BurstOutcome, outcome, refusedOf, givenOf, withRoom, underCard}
 use Rattle.outcomes.specs.Receiving.{receiveUnder, receiveOf}
 use Rattle.outcomes.specs.Claims.{Admitted, CameOut, ComesOutAsSent}

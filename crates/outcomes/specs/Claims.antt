@@ -13,7 +13,7 @@ use Rattle.card.specs.Outcome.Outcome.{accepted}
 use Rattle.card.specs.Reading.{readCard}
 use Rattle.code.specs.Code.{mostFrames}
 use Rattle.code.specs.declared.Card.{Card}
-use Rattle.majority.specs.AsSent.{Correctable}
+use Rattle.majority.specs.Plain.{Correctable}
 
 -- the burst meets none of the refusals: the card's, 15, 13 and 11
 pub record Admitted (card input output : List ℕ) : Type 0 where

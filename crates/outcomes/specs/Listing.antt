@@ -11,7 +11,7 @@ use Rattle.bits.specs.Digits.{bit, anyBeyond}
 use Rattle.card.specs.Outcome.{Outcome, accepted, refused}
 use Rattle.card.specs.Reading.{readCard}
 use Rattle.code.specs.declared.Card.{Card}
-use Rattle.majority.specs.Rule.{decoded}
+use Rattle.majority.specs.Plain.{decoded}
 use Rattle.outcomes.specs.Text.{text, decimal, line}
 
 -- ---- the input: "a two-byte card length, the card, then received frames to the end"

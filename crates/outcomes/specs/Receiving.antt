@@ -9,7 +9,7 @@ use Rattle.bits.specs.Digits.{anyBeyond}
 use Rattle.card.specs.Reading.{readCard}
 use Rattle.code.specs.Code.{mostFrames}
 use Rattle.code.specs.declared.Card.{Card}
-use Rattle.majority.specs.Rule.{decoded}
+use Rattle.majority.specs.Plain.{decoded}
 use Rattle.outcomes.specs.Outcome.{BurstOutcome, refusedOf, givenOf, withRoom, underCard}
 
 -- under the card c: "15 by length .., 13, 11"; "the first m frames give 'waiting'; each later one gives the frame m before it"

@@ -10,29 +10,29 @@ use Rattle.receiving.specs.Answers.{Given, waiting, frame}
 use Rattle.receiving.specs.Calls.{handedBy, answersBy}
 
 -- ---- the answer at time t
-module _ (rule : Card → List ℕ → List ℕ) (c : Card) (frames : List ℕ) (handed : length (rule c frames) ≡ length frames - c .m) where
-  pub answers-length : length (answersBy rule c frames) ≡ length frames
+module _ (rule : Card → List ℕ → List ℕ → List ℕ) (c : Card) (frames erased : List ℕ) (handed : length (rule c frames erased) ≡ length frames - c .m) where
+  pub answers-length : length (answersBy rule c frames erased) ≡ length frames
   unfolding answersBy
   answers-length =
-      length-append (replicate (min (length frames) (c .m)) waiting) (map frame (rule c frames))
-      ∙ omega (arith, length-replicate (min (length frames) (c .m)) waiting, length-map (rule c frames) frame, handed)
+      length-append (replicate (min (length frames) (c .m)) waiting) (map frame (rule c frames erased))
+      ∙ omega (arith, length-replicate (min (length frames) (c .m)) waiting, length-map (rule c frames erased) frame, handed)
 
   module _ (t : ℕ) (l : t < length frames) where
-    pub first-waiting : t < c .m → getD (answersBy rule c frames) t waiting ≡ waiting
+    pub first-waiting : t < c .m → getD (answersBy rule c frames erased) t waiting ≡ waiting
     unfolding answersBy
     first-waiting lm =
         let n = min (length frames) (c .m) in
-        List·getD-append (replicate n waiting) (map frame (rule c frames)) waiting t (omega (arith, length-replicate n waiting))
+        List·getD-append (replicate n waiting) (map frame (rule c frames erased)) waiting t (omega (arith, length-replicate n waiting))
         ∙ getD-replicate n t waiting waiting (omega arith)
 
-    pub then-frames : c .m ≤ t → getD (answersBy rule c frames) t waiting ≡ frame (getD (rule c frames) (t - c .m) 0)
+    pub then-frames : c .m ≤ t → getD (answersBy rule c frames erased) t waiting ≡ frame (getD (rule c frames erased) (t - c .m) 0)
     unfolding answersBy
     then-frames lm =
         let n = min (length frames) (c .m) in
         let e : t ≡ length (replicate n waiting) + (t - c .m) = omega (arith, length-replicate n waiting) in
-        ap (λ (x : ℕ). getD (answersBy rule c frames) x waiting) e
-        ∙ getD-append-add (replicate n waiting) (map frame (rule c frames)) (t - c .m) waiting
-        ∙ framed (rule c frames) (t - c .m) (omega (arith, handed))
+        ap (λ (x : ℕ). getD (answersBy rule c frames erased) x waiting) e
+        ∙ getD-append-add (replicate n waiting) (map frame (rule c frames erased)) (t - c .m) waiting
+        ∙ framed (rule c frames erased) (t - c .m) (omega (arith, handed))
       where
         framed : (fs : List ℕ) (u : ℕ) → u < length fs → getD (map frame fs) u waiting ≡ frame (getD fs u 0)
         framed [] u lu = absurd (omega arith)
@@ -60,8 +60,8 @@ handed-frames [] = refl
 handed-frames (f ∷ l) = ap (λ (k : List ℕ). f ∷ k) (handed-frames l)
 
 -- those of the rule's answers
-pub handed-by-rule : (rule : Card → List ℕ → List ℕ) (c : Card) (frames : List ℕ) → handedIn (answersBy rule c frames) ≡ rule c frames
+pub handed-by-rule : (rule : Card → List ℕ → List ℕ → List ℕ) (c : Card) (frames erased : List ℕ) → handedIn (answersBy rule c frames erased) ≡ rule c frames erased
 unfolding answersBy
-handed-by-rule rule c frames =
-    handed-append (replicate (min (length frames) (c .m)) waiting) (map frame (rule c frames))
-    ∙ ap₂ _++_ (handed-waiting (min (length frames) (c .m))) (handed-frames (rule c frames))
+handed-by-rule rule c frames erased =
+    handed-append (replicate (min (length frames) (c .m)) waiting) (map frame (rule c frames erased))
+    ∙ ap₂ _++_ (handed-waiting (min (length frames) (c .m))) (handed-frames (rule c frames erased))

@@ -9,32 +9,35 @@ use Rattle.code.specs.Guarantees.{Guarantees}
 use Rattle.code.specs.declared.Card.{Card}
 use Rattle.majority.specs.AsSent.{Correctable}
 use Rattle.receiving.specs.Receive.{Circuit}
-use Rattle.receiving.specs.Calls.{Call, takenFrames, answersBy}
+use Rattle.receiving.specs.Calls.{Call, takenFrames, takenErased, handedOut, answersBy}
 use Rattle.receiving.specs.Claims.{ByRule}
 use Rattle.receiving.proofs.Answers.{answers-length, handedIn, handed-by-rule}
 use Rattle.receiving.proofs.Follow.{Follows, Followed, follow}
 
-module _ {S : Type 0} (x : Circuit S) (rule : Card → List ℕ → List ℕ) (c : Card) (G : Guarantees c) (s : S)
-    (handed : (frames : List ℕ) → length (rule c frames) ≡ length frames - c .m)
-    (F : (frames : List ℕ) → Follows x c frames (answersBy rule c frames))
-    (start : (frames : List ℕ) → F frames .After 0 s) where
+module _ {S : Type 0} (x : Circuit S) (rule : Card → List ℕ → List ℕ → List ℕ) (c : Card) (G : Guarantees c) (s : S)
+    (handed : (frames erased : List ℕ) → length (rule c frames erased) ≡ length frames - c .m)
+    (F : (frames erased : List ℕ) → Follows x c frames erased (answersBy rule c frames erased))
+    (start : (frames erased : List ℕ) → F frames erased .After 0 s) where
   -- the calls followed from the start, the frames being those that they take
-  pub from-start : (calls : List Call)
-      → Followed x c G (takenFrames x s calls) (answersBy rule c (takenFrames x s calls)) (answers-length rule c (takenFrames x s calls) (handed (takenFrames x s calls)))
-      (F (takenFrames x s calls)) 0 s calls
+  pub from-start : (calls : List Call) →
+      let frames = takenFrames x s calls in
+      let erased = takenErased x s calls in
+      Followed x c G frames erased (answersBy rule c frames erased) (answers-length rule c frames erased (handed frames erased)) (F frames erased) 0 s calls
   from-start calls =
       let frames = takenFrames x s calls in
-      follow x c G frames (answersBy rule c frames) (answers-length rule c frames (handed frames)) (F frames) calls 0 s (omega arith) (start frames) refl
+      let erased = takenErased x s calls in
+      follow x c G frames erased (answersBy rule c frames erased) (answers-length rule c frames erased (handed frames erased)) (F frames erased) calls 0 s (omega arith)
+      (start frames erased) refl refl
 
-  module _ (as-sent : (info frames : List ℕ) → ((u : ℕ) → u < length info → getD info u 0 < 2 ^ c .k) → length frames ≡ length info + c .m
-      → Correctable c info frames → rule c frames ≡ info) where
+  handed-are : (calls : List Call) → handedOut x s calls ≡ rule c (takenFrames x s calls) (takenErased x s calls)
+  handed-are calls = from-start calls .handed-are ∙ ap handedIn (from-start calls .answers-are) ∙ handed-by-rule rule c (takenFrames x s calls) (takenErased x s calls)
+
+  module _ (as-sent : (info frames erased : List ℕ) → ((u : ℕ) → u < length info → getD info u 0 < 2 ^ c .k) → length frames ≡ length info + c .m
+      → Correctable c info frames erased → rule c frames erased ≡ info) where
     pub follows-rule : ByRule x rule c s
     follows-rule =
         record {
-          handed-by-rule = λ calls. from-start calls .handed-are ∙ ap handedIn (from-start calls .answers-are) ∙ handed-by-rule rule c (takenFrames x s calls);
+          handed-by-rule = handed-are;
           answers-by-rule = λ calls. from-start calls .answers-are;
-          comes-out-as-sent = λ calls info small whole few.
-              let h = from-start calls .handed-are ∙ ap handedIn (from-start calls .answers-are) ∙ handed-by-rule rule c (takenFrames x s calls) in
-              let w = as-sent info (takenFrames x s calls) small whole few in
-              cc;
+          comes-out-as-sent = λ calls info small whole few. handed-are calls ∙ as-sent info (takenFrames x s calls) (takenErased x s calls) small whole few;
         }

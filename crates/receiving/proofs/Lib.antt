@@ -1,5 +1,6 @@
 -- frames as they come
 pub mod Yields
+pub mod Read
 -- lists of calls
 pub mod Outcomes
 pub mod Answers

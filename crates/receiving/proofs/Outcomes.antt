@@ -11,9 +11,9 @@ use Rattle.code.specs.Code.{mostFrames}
 use Rattle.code.specs.Guarantees.{Guarantees}
 use Rattle.code.specs.declared.Card.{Card}
 use Rattle.receiving.specs.Answers.{Reply, waiting}
-use Rattle.receiving.specs.Readings.{streamsOf, Yield, yields, refuses, faults, frameRead, readByteOf, readFrameOf}
+use Rattle.receiving.specs.Readings.{streamsOf, Yield, yields, refuses, faults, frameRead, erasedRead, readByteOf, readFrameOf}
 use Rattle.receiving.specs.Receive.{Circuit, inTurn, admitOf, refusedOf, settledOf, receiveOf, receiveByteOf, receiveReadingsOf}
-use Rattle.receiving.specs.Calls.{Call, byte, readings, replyOf, numberIn, frameIn, readable, taken}
+use Rattle.receiving.specs.Calls.{Call, byte, readings, replyOf, numberIn, frameIn, erasedIn, readable, taken}
 use Rattle.receiving.specs.declared.Reading.{Reading}
 use Rattle.receiving.proofs.Yields.{byte-within, byte-beyond, read-whole, read-faulty}
 
@@ -32,8 +32,8 @@ module _ (own received number : ℕ) (y : Yield) where
   admitted e h = simp (eq-eqb number own e, lt-ltb received mostFrames h)
 
 -- a frame is taken only where there is room for it
-pub room-for : (own received number : ℕ) (y : Yield) {f : ℕ} → admitOf own received number y ≡ yields f → received < mostFrames
-room-for own received number y {f} e = numbered (eqb number own) refl
+pub room-for : (own received number : ℕ) (y : Yield) {f e : ℕ} → admitOf own received number y ≡ yields f e → received < mostFrames
+room-for own received number y {f} {e} taken = numbered (eqb number own) refl
   where
     not-refused : {n : ℕ} → admitOf own received number y ≡ refuses n → ⊥
     not-refused q = let z : _≡_ {A = ℕ} 0 1 = cc in omega arith
@@ -58,40 +58,40 @@ module _ {S : Type 0} (received m : ℕ) (s : S) (hand : S → Reply S) where
 
 -- ---- taken or refused
 
--- a frame that is in order yields f, and any other yields its refusal
-abbrev pub Yielded : Bool → ℕ → Yield → Type 0
-Yielded ok f y = ((ok ≡ true) × (y ≡ yields f)) ⊎ ((ok ≡ false) × (n : ℕ) × (y ≡ refuses n))
+-- a frame that is in order yields f, of which e are erased, and any other yields its refusal
+abbrev pub Yielded : Bool → ℕ → ℕ → Yield → Type 0
+Yielded ok f e y = ((ok ≡ true) × (y ≡ yields f e)) ⊎ ((ok ≡ false) × (n : ℕ) × (y ≡ refuses n))
 
-yielded-byte : (f n : ℕ) → Yielded (ltb f (2 ^ n)) f (readByteOf f n)
+yielded-byte : (f n : ℕ) → Yielded (ltb f (2 ^ n)) f 0 (readByteOf f n)
 yielded-byte f n = go (ltb f (2 ^ n)) refl
   where
-    go : (b : Bool) → ltb f (2 ^ n) ≡ b → Yielded b f (readByteOf f n)
+    go : (b : Bool) → ltb f (2 ^ n) ≡ b → Yielded b f 0 (readByteOf f n)
     go true e = inl (refl, byte-within f n (ltb-true f (2 ^ n) e))
     go false e = inr (refl, 11, byte-beyond f n (ltb-false f (2 ^ n) e))
 
-yielded-readings : (levels : List Reading) (n : ℕ) → Yielded (eqb (faults levels n) 0) (frameRead levels n) (readFrameOf levels n)
+yielded-readings : (levels : List Reading) (n : ℕ) → Yielded (eqb (faults levels n) 0) (frameRead levels n) (erasedRead levels n) (readFrameOf levels n)
 yielded-readings levels n = go (eqb (faults levels n) 0) refl
   where
     positive : (x : ℕ) → (x ≡ 0 → ⊥) → 0 < x
     positive x ne = omega arith
 
-    go : (b : Bool) → eqb (faults levels n) 0 ≡ b → Yielded b (frameRead levels n) (readFrameOf levels n)
+    go : (b : Bool) → eqb (faults levels n) 0 ≡ b → Yielded b (frameRead levels n) (erasedRead levels n) (readFrameOf levels n)
     go true e = inl (refl, read-whole levels n (eqb-true (faults levels n) 0 e))
     go false e = inr (refl, 12, read-faulty levels n (positive (faults levels n) (eqb-false (faults levels n) 0 e)))
 
-by-conditions : (own received number f : ℕ) (ok : Bool) (y : Yield) → Yielded ok f y
-    → Yielded (eqb number own && ltb received mostFrames && ok) f (admitOf own received number y)
-by-conditions own received number f ok y yielded = numbered (eqb number own) refl
+by-conditions : (own received number f e : ℕ) (ok : Bool) (y : Yield) → Yielded ok f e y
+    → Yielded (eqb number own && ltb received mostFrames && ok) f e (admitOf own received number y)
+by-conditions own received number f e ok y yielded = numbered (eqb number own) refl
   where
-    framed : number ≡ own → received < mostFrames → Yielded ok f y → Yielded ok f (admitOf own received number y)
-    framed e l (inl w) = inl (w .0, admitted own received number y e l ∙ w .1)
-    framed e l (inr w) = inr (w .0, w .1, admitted own received number y e l ∙ w .2)
+    framed : number ≡ own → received < mostFrames → Yielded ok f e y → Yielded ok f e (admitOf own received number y)
+    framed n l (inl w) = inl (w .0, admitted own received number y n l ∙ w .1)
+    framed n l (inr w) = inr (w .0, w .1, admitted own received number y n l ∙ w .2)
 
-    counted : number ≡ own → (b : Bool) → ltb received mostFrames ≡ b → Yielded (true && b && ok) f (admitOf own received number y)
-    counted e true q = framed e (ltb-true _ _ q) yielded
-    counted e false q = inr (refl, 15, no-room own received number y e (ltb-false _ _ q))
+    counted : number ≡ own → (b : Bool) → ltb received mostFrames ≡ b → Yielded (true && b && ok) f e (admitOf own received number y)
+    counted n true q = framed n (ltb-true _ _ q) yielded
+    counted n false q = inr (refl, 15, no-room own received number y n (ltb-false _ _ q))
 
-    numbered : (a : Bool) → eqb number own ≡ a → Yielded (a && ltb received mostFrames && ok) f (admitOf own received number y)
+    numbered : (a : Bool) → eqb number own ≡ a → Yielded (a && ltb received mostFrames && ok) f e (admitOf own received number y)
     numbered true q = counted (eqb-true _ _ q) (ltb received mostFrames) refl
     numbered false q = inr (refl, 14, other-number own received number y (eqb-false _ _ q))
 
@@ -102,14 +102,14 @@ admission c received (readings number levels) = admitOf (c .number) received num
 
 -- it is taken by its conditions exactly if it is not refused
 pub outcome : (c : Card) → Guarantees c → (received : ℕ) (call : Call)
-    → Yielded (taken c received call) (frameIn (c .k + c .p) call) (admission c received call)
-unfolding taken numberIn frameIn readable admission
+    → Yielded (taken c received call) (frameIn (c .k + c .p) call) (erasedIn (c .k + c .p) call) (admission c received call)
+unfolding taken numberIn frameIn erasedIn readable admission
 outcome c G received (byte number f) =
     let n : streamsOf (c .k) (c .p) ≡ c .k + c .p = omega (arith, G .k-most, G .n-most) in
-    rw n (by-conditions (c .number) received number f _ _ (yielded-byte f (c .k + c .p)))
+    rw n (by-conditions (c .number) received number f 0 _ _ (yielded-byte f (c .k + c .p)))
 outcome c G received (readings number levels) =
     let n : streamsOf (c .k) (c .p) ≡ c .k + c .p = omega (arith, G .k-most, G .n-most) in
-    rw n (by-conditions (c .number) received number _ _ _ (yielded-readings levels (c .k + c .p)))
+    rw n (by-conditions (c .number) received number _ _ _ _ (yielded-readings levels (c .k + c .p)))
 
 module _ {S : Type 0} (x : Circuit S) (s : S) (call : Call) where
   reply-is : replyOf x s call ≡ settledOf x s (admission (x .card s) (x .received s) call)
@@ -120,9 +120,9 @@ module _ {S : Type 0} (x : Circuit S) (s : S) (call : Call) where
       by-kind (readings number levels) = unfold replyOf receiveReadingsOf receiveOf admission in refl
 
   -- a call that yields a frame is taken, and any other is refused
-  pub reply-taken : (f : ℕ) → admission (x .card s) (x .received s) call ≡ yields f → replyOf x s call ≡ x .take s f
+  pub reply-taken : (f e : ℕ) → admission (x .card s) (x .received s) call ≡ yields f e → replyOf x s call ≡ x .take s f e
   unfolding settledOf
-  reply-taken f e = reply-is ∙ ap (settledOf x s) e
+  reply-taken f e q = reply-is ∙ ap (settledOf x s) q
 
   pub reply-refused : (n : ℕ) → admission (x .card s) (x .received s) call ≡ refuses n → replyOf x s call ≡ refusedOf s n
   unfolding settledOf
@@ -130,14 +130,14 @@ module _ {S : Type 0} (x : Circuit S) (s : S) (call : Call) where
 
 -- ---- what the parts of a call come to together, stated over their results, so that the functions' proofs stay small
 module _ {S : Type 0} (x : Circuit S) (s : S) (number : ℕ) (y : Yield) where
-  module _ {a : Yield} {r : Reply S} (e : a ≡ admitOf (x .card s .number) (x .received s) number y) where
-    pub is-taken : (f : ℕ) → a ≡ yields f → r ≡ x .take s f → r ≡ receiveOf x s number y
+  module _ {a : Yield} {r : Reply S} (admitted-is : a ≡ admitOf (x .card s .number) (x .received s) number y) where
+    pub is-taken : (f e : ℕ) → a ≡ yields f e → r ≡ x .take s f e → r ≡ receiveOf x s number y
     unfolding receiveOf settledOf
-    is-taken f w q = q ∙ ap (settledOf x s) (sym w ∙ e)
+    is-taken f e w q = q ∙ ap (settledOf x s) (sym w ∙ admitted-is)
 
     pub is-refused : (n : ℕ) → a ≡ refuses n → r ≡ refusedOf s n → r ≡ receiveOf x s number y
     unfolding receiveOf settledOf
-    is-refused n w q = q ∙ ap (settledOf x s) (sym w ∙ e)
+    is-refused n w q = q ∙ ap (settledOf x s) (sym w ∙ admitted-is)
 
   module _ {r : Reply S} (e : r ≡ receiveOf x s number y) where
     pub byte-is : (f : ℕ) → y ≡ readByteOf f (streamsOf (x .card s .k) (x .card s .p)) → r ≡ receiveByteOf x s number f

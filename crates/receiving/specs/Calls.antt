@@ -8,7 +8,7 @@ use lib.ListN.{length, replicate}
 use lib.Dec.{ltb, eqb}
 use Rattle.code.specs.Code.{mostFrames}
 use Rattle.code.specs.declared.Card.{Card}
-use Rattle.receiving.specs.Readings.{faults, frameRead}
+use Rattle.receiving.specs.Readings.{faults, frameRead, erasedRead}
 use Rattle.receiving.specs.Answers.{Given, waiting, frame, refused, Reply}
 use Rattle.receiving.specs.Receive.{Circuit, receiveByteOf, receiveReadingsOf}
 use Rattle.receiving.specs.declared.Reading.{Reading}
@@ -30,10 +30,15 @@ unfoldable pub numberIn : Call → ℕ
 numberIn (byte number f) = number
 numberIn (readings number levels) = number
 
--- the frame of a call, for n streams
+-- the frame of a call, for n streams, an erased digit as 0
 unfoldable pub frameIn : ℕ → Call → ℕ
 frameIn n (byte number f) = f
 frameIn n (readings number levels) = frameRead levels n
+
+-- which of its digits are erased
+unfoldable pub erasedIn : ℕ → Call → ℕ
+erasedIn n (byte number f) = 0
+erasedIn n (readings number levels) = erasedRead levels n
 
 -- neither 11, a digit beyond the n streams, nor 12, one of the first n levels infinite or not a number
 unfoldable pub readable : ℕ → Call → Bool
@@ -44,12 +49,19 @@ readable n (readings number levels) = eqb (faults levels n) 0
 unfoldable pub taken : Card → ℕ → Call → Bool
 taken c received call = eqb (numberIn call) (c .number) && ltb received mostFrames && readable (c .k + c .p) call
 
--- the frames taken, in the order of the calls
-unfoldable pub takenFrames : {S : Type 0} → Circuit S → S → List Call → List ℕ
-takenFrames x s [] = []
-takenFrames x s (call ∷ calls) =
-    cond (taken (x .card s) (x .received s) call) (frameIn (x .card s .k + x .card s .p) call ∷ []) []
-    ++ takenFrames x (replyOf x s call .session) calls
+-- the calls that are taken, in their order, and of each what `part` says of it for its streams
+unfoldable pub takenParts : {S : Type 0} → (ℕ → Call → ℕ) → Circuit S → S → List Call → List ℕ
+takenParts part x s [] = []
+takenParts part x s (call ∷ calls) =
+    cond (taken (x .card s) (x .received s) call) (part (x .card s .k + x .card s .p) call ∷ []) []
+    ++ takenParts part x (replyOf x s call .session) calls
+
+-- the frames taken, and which of their digits are erased
+abbrev pub takenFrames : {S : Type 0} → Circuit S → S → List Call → List ℕ
+takenFrames x s calls = takenParts frameIn x s calls
+
+abbrev pub takenErased : {S : Type 0} → Circuit S → S → List Call → List ℕ
+takenErased x s calls = takenParts erasedIn x s calls
 
 -- ---- what the calls come to
 
@@ -83,5 +95,5 @@ sessionAfter x s (call ∷ calls) = sessionAfter x (replyOf x s call .session) c
 -- ---- what a rule answers to received frames
 
 -- "the first m frames give 'waiting'; each later one gives the frame m before it", where the rule hands out these for the frames
-unfoldable pub answersBy : (Card → List ℕ → List ℕ) → Card → List ℕ → List Given
-answersBy rule c frames = replicate (min (length frames) (c .m)) waiting ++ map frame (rule c frames)
+unfoldable pub answersBy : (Card → List ℕ → List ℕ → List ℕ) → Card → List ℕ → List ℕ → List Given
+answersBy rule c frames erased = replicate (min (length frames) (c .m)) waiting ++ map frame (rule c frames erased)

@@ -2,7 +2,7 @@
 -- be dropped or weakened unnoticed. The session is of any kind x.
 -- Assumes nothing.
 use mathlib.Core.Path.{_≡_}
-use mathlib.Core.Bool.{false}
+use mathlib.Core.Bool.{true, false}
 use mathlib.Core.List.{List, [], _∷_, _++_}
 use lib.ListN.{replicate}
 use lib.IntN.{pos}
@@ -34,17 +34,28 @@ callsP =
 abbrev pub callsP-two-errors : List Call
 callsP-two-errors = byte 7 2 ∷ byte 7 2 ∷ byte 7 0 ∷ byte 7 0 ∷ []
 
+-- 3, 1, 2 was sent for 1, 1: both digits of frame 0 are lost, and the parity digit of the last frame is wrong
+abbrev pub callsP-lost : List Call
+callsP-lost = readings 7 (pair Erased Erased) ∷ byte 7 1 ∷ byte 7 0 ∷ []
+
 pub record ReceivesP {S : Type 0} (x : Circuit S) (s : S) : Type 0 where
-  -- one wrong digit of the stream that was sent for 1, 0, 1: it comes out as sent
+  -- one wrong digit of the stream that was sent for 1, 0, 1, and an erased one in its tail: it comes out as sent
   pub comes-out : handedOut x s callsP ≡ 1 ∷ 0 ∷ 1 ∷ []
   -- beyond the correctable number: the rule's frames
   pub by-rule : handedOut x s callsP-two-errors ≡ 1 ∷ 0 ∷ 0 ∷ []
+  -- and where the digits are lost, s1 alone puts frame 0 right, and then both checks vote
+  pub lost-by-rule : handedOut x s callsP-lost ≡ 1 ∷ 1 ∷ []
   pub answers : takenAnswers x s callsP ≡ waiting ∷ frame 1 ∷ frame 0 ∷ frame 1 ∷ []
 
 -- what T sends for 3, information on both of its streams, with two parity digits wrong
 abbrev pub callsT : List Call
 callsT = byte 10 3 ∷ byte 10 0 ∷ byte 10 0 ∷ []
 
--- it comes out as sent
-abbrev pub ReceivesT : {S : Type 0} → Circuit S → S → Type 0
-ReceivesT x s = handedOut x s callsT ≡ 3 ∷ []
+-- the same with the digit of stream 2 erased, and every other as sent
+abbrev pub callsT-lost : List Call
+callsT-lost = readings 10 (one ∷ Erased ∷ replicate 6 (Level (fin true 1 (pos 0)))) ∷ byte 10 4 ∷ byte 10 4 ∷ []
+
+-- they come out as sent
+pub record ReceivesT {S : Type 0} (x : Circuit S) (s : S) : Type 0 where
+  pub wrong : handedOut x s callsT ≡ 3 ∷ []
+  pub lost : handedOut x s callsT-lost ≡ 3 ∷ []

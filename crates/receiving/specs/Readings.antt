@@ -1,4 +1,4 @@
--- What a frame yields that comes as a byte or as readings: document 01, "Readings and bursts".
+-- What a frame yields that comes as a byte or as readings: document 01, "Readings and bursts", amended for 'erased' by document 02, R-6.
 -- Assumes nothing.
 use Prim.Native.Nat.{ℕ, zero, suc, _+_, _^_, min}
 use mathlib.Core.Bool.{true, false, cond}
@@ -12,7 +12,7 @@ use Rattle.card.specs.Refusals.{numberOf}
 use Rattle.receiving.specs.declared.Reading.{Reading}
 use Rattle.receiving.specs.declared.Reading.the-variants.{Level, Erased}
 use Rattle.receiving.specs.declared.ReadDigit.{ReadDigit}
-use Rattle.receiving.specs.declared.ReadDigit.the-variants.{Digit, Refused}
+use Rattle.receiving.specs.declared.ReadDigit.the-variants as read-digit
 use Rattle.receiving.specs.declared.ReadFrame.{ReadFrame}
 use Rattle.receiving.specs.declared.ReadFrame.the-variants as read-frame
 
@@ -20,34 +20,47 @@ use Rattle.receiving.specs.declared.ReadFrame.the-variants as read-frame
 abbrev pub streamsOf : ℕ → ℕ → ℕ
 streamsOf k p = min (min k 4 + min p 8) 8
 
--- a digit or a frame, or a refusal by its published number
+-- what a reading yields: a digit, 'erased', or a refusal by its published number
+pub data ReadingYield : Type 0 where
+  digit : ℕ → ReadingYield
+  erased : ReadingYield
+  refusal : ℕ → ReadingYield
+
+-- what a frame yields: its digits, an erased one as 0, and a 1 for each that is erased; or a refusal by its published number
 pub data Yield : Type 0 where
-  yields : ℕ → Yield
+  yields : ℕ → ℕ → Yield
   refuses : ℕ → Yield
 
 -- a level above zero is digit 1, below zero 0, and zero of either sign is taken as 0; one that is infinite or not a number is refused.
 -- `fin true m e` is the number - m · 2 ^ e, and `fin false m e` the number m · 2 ^ e
-unfoldable pub digitOfLevel : Float → Yield
-digitOfLevel nan = refuses 12
-digitOfLevel (inf sign) = refuses 12
-digitOfLevel (fin true m e) = yields 0
-digitOfLevel (fin false zero e) = yields 0
-digitOfLevel (fin false (suc m) e) = yields 1
+unfoldable pub digitOfLevel : Float → ReadingYield
+digitOfLevel nan = refusal 12
+digitOfLevel (inf sign) = refusal 12
+digitOfLevel (fin true m e) = digit 0
+digitOfLevel (fin false zero e) = digit 0
+digitOfLevel (fin false (suc m) e) = digit 1
 
--- 'erased' is taken as 0
-unfoldable pub digitOf : Reading → Yield
-digitOf Erased = yields 0
+unfoldable pub digitOf : Reading → ReadingYield
+digitOf Erased = erased
 digitOf (Level level) = digitOfLevel level
 
--- the digit, 0 where there is none
-unfoldable pub digitIn : Yield → ℕ
-digitIn (yields d) = d
-digitIn (refuses n) = 0
+-- the digit, 0 where there is none: "an erased digit still enters as 0"
+unfoldable pub digitIn : ReadingYield → ℕ
+digitIn (digit d) = d
+digitIn erased = 0
+digitIn (refusal n) = 0
+
+-- 1 where the digit is erased
+unfoldable pub markIn : ReadingYield → ℕ
+markIn (digit d) = 0
+markIn erased = 1
+markIn (refusal n) = 0
 
 -- 1 where there is a refusal
-unfoldable pub faultIn : Yield → ℕ
-faultIn (yields d) = 0
-faultIn (refuses n) = 1
+unfoldable pub faultIn : ReadingYield → ℕ
+faultIn (digit d) = 0
+faultIn erased = 0
+faultIn (refusal n) = 1
 
 -- reading s of a call, which has eight; beyond them a level that is not a number
 abbrev pub readingAt : List Reading → ℕ → Reading
@@ -61,19 +74,24 @@ faults readings n = sumBelow n (λ s. faultIn (digitOf (readingAt readings s)))
 unfoldable pub frameRead : List Reading → ℕ → ℕ
 frameRead readings n = fromDigits n (λ s. digitIn (digitOf (readingAt readings s)))
 
--- a byte is its frame, unless it has a digit beyond its n streams
+-- which digits of that frame are erased
+unfoldable pub erasedRead : List Reading → ℕ → ℕ
+erasedRead readings n = fromDigits n (λ s. markIn (digitOf (readingAt readings s)))
+
+-- a byte is its frame, with nothing erased, unless it has a digit beyond its n streams
 unfoldable pub readByteOf : ℕ → ℕ → Yield
-readByteOf f n = cond (leb (2 ^ n) f) (refuses 11) (yields f)
+readByteOf f n = cond (leb (2 ^ n) f) (refuses 11) (yields f 0)
 
 -- what the readings of a frame yield; those after the n-th are not looked at
 unfoldable pub readFrameOf : List Reading → ℕ → Yield
-readFrameOf readings n = cond (ltb 0 (faults readings n)) (refuses 12) (yields (frameRead readings n))
+readFrameOf readings n = cond (ltb 0 (faults readings n)) (refuses 12) (yields (frameRead readings n) (erasedRead readings n))
 
 -- what the program hands back, in the published numbers
-abbrev pub yieldOf : ReadDigit → Yield
-yieldOf (Digit d) = yields d
-yieldOf (Refused refusal) = refuses (numberOf refusal)
+abbrev pub yieldOf : ReadDigit → ReadingYield
+yieldOf (read-digit.Digit d) = digit d
+yieldOf read-digit.Erased = erased
+yieldOf (read-digit.Refused r) = refusal (numberOf r)
 
 abbrev pub frameYieldOf : ReadFrame → Yield
-frameYieldOf (read-frame.Frame f) = yields f
-frameYieldOf (read-frame.Refused refusal) = refuses (numberOf refusal)
+frameYieldOf (read-frame.Frame digits marks) = yields digits marks
+frameYieldOf (read-frame.Refused r) = refuses (numberOf r)

@@ -29,8 +29,8 @@ pub record Circuit (S : Type 0) : Type 0 where
   pub received : S → ℕ
   -- a session that holds no digit, with so many frames counted as received
   pub fresh : Card → ℕ → S
-  -- what it does with a frame that is not refused
-  pub take : S → ℕ → Reply S
+  -- what it does with a frame that is not refused: its digits, an erased one as 0, and a 1 for each that is erased
+  pub take : S → ℕ → ℕ → Reply S
 
 -- "the first m frames give 'waiting'; each later one gives the frame m before it": after so many frames received before, where s has the frame already
 -- and `hand` hands out
@@ -51,7 +51,7 @@ refusedOf s n = record { answer = refused n; session = s }
 
 -- a frame that is taken, or refused
 unfoldable pub settledOf : {S : Type 0} → Circuit S → S → Yield → Reply S
-settledOf x s (yields f) = x .take s f
+settledOf x s (yields f e) = x .take s f e
 settledOf x s (refuses n) = refusedOf s n
 
 -- a frame, or its own refusal, under a card number

@@ -26,12 +26,13 @@ pub enum Answer {
 // What a reading yields.
 enum ReadDigit {
     Digit(u32),
+    Erased,
     Refused(Refusal),
 }
 
-// What a frame yields, as it came.
+// What a frame yields, as it came: its digits, an erased one as 0, and a 1 for each that is erased.
 pub enum ReadFrame {
-    Frame(u8),
+    Frame { digits: u8, erased: u8 },
     Refused(Refusal),
 }
 
@@ -55,23 +56,26 @@ pub fn stream_count(k: usize, p: usize) -> usize
     bits::at_most(bits::at_most(k, 4) + bits::at_most(p, 8), 8)
 }
 
-// A byte is its frame, unless it has a digit beyond its streams.
+// A byte is its frame, with nothing erased, unless it has a digit beyond its streams.
 pub fn read_byte(frame: u8, k: usize, p: usize) -> ReadFrame
     ensures { λ r. ⌜ frameYieldOf r ≡ readByteOf frame (streamsOf k p) ⌝ }
 {
     if bits::beyond(frame, stream_count(k, p)) {
         ReadFrame::Refused(Refusal::DigitBeyondStreams)
     } else {
-        ReadFrame::Frame(frame)
+        ReadFrame::Frame {
+            digits: frame,
+            erased: 0,
+        }
     }
 }
 
-// Above zero is 1; below zero, zero of either sign and 'erased' are 0; a level that is infinite or not a number is refused.
+// Above zero is 1; below zero and zero of either sign are 0; a level that is infinite or not a number is refused.
 fn digit_of(reading: Reading) -> ReadDigit
     ensures { λ r. ⌜ yieldOf r ≡ digitOf reading ⌝ }
 {
     match reading {
-        Reading::Erased => ReadDigit::Digit(0),
+        Reading::Erased => ReadDigit::Erased,
         Reading::Level(level) => {
             let infinite = 1.0f32 / 0.0f32;
             if level < infinite {
@@ -93,6 +97,7 @@ fn frame_of(readings: [Reading; 8], n: usize) -> ReadFrame
     ensures { λ r. ⌜ frameYieldOf r ≡ readFrameOf readings n ⌝ }
 {
     let mut frame: u32 = 0;
+    let mut marks: u32 = 0;
     let mut s = 0;
     while s < n {
         let reading = readings[s];
@@ -101,14 +106,18 @@ fn frame_of(readings: [Reading; 8], n: usize) -> ReadFrame
             ReadDigit::Digit(digit) => {
                 frame = frame + bits::shift_up(digit, s);
             }
+            ReadDigit::Erased => {
+                marks = marks + bits::shift_up(1, s);
+            }
             ReadDigit::Refused(refusal) => {
                 return ReadFrame::Refused(refusal);
             }
         }
         s += 1;
     }
-    let byte = frame as u8;
-    ReadFrame::Frame(byte)
+    let digits = frame as u8;
+    let erased = marks as u8;
+    ReadFrame::Frame { digits, erased }
 }
 
 // The frame that readings make. Those after the n-th are not looked at.

@@ -6,7 +6,7 @@ use native.Mathlib.Omega.{arith}
 use lib.ListN.{length, take, replicate, length-replicate}
 use Rattle.card.specs.Reading.{readCard}
 use Rattle.code.specs.declared.Card.{Card}
-use Rattle.majority.specs.Rule.{decoded}
+use Rattle.majority.specs.Plain.{decoded}
 use Rattle.outcomes.specs.Listing.{cardLine, frameLines, endLine}
 use Rattle.listing.proofs.HandedOut.{admitted, handed-count, handed-within, handed-few}
 use Rattle.outcomes.proofs.Listings.{put-together}

@@ -7,7 +7,7 @@ use lib.Dec.{T}
 use mir.Syntax.{w32, w64}
 use mir.Val.{Fits, toZ, ofZ}
 use Rattle.card.specs.Reading.{readCard}
-use Rattle.majority.specs.Rule.{decoded}
+use Rattle.majority.specs.Plain.{decoded}
 use Rattle.outcomes.proofs.Answers.{answer-is}
 use Rattle.listing.proofs.HandedOut.{count-most, answer-count, hands-out}
 use borrow.Author.Needs.{needs}

@@ -5,8 +5,8 @@ use native.Mathlib.Omega.{arith}
 use lib.ListN.{length}
 use lib.IntN.{pos}
 use borrow.Author.Needs.{needs}
-use Rattle.majority.specs.Rule.{decoded}
-use Rattle.majority.proofs.Streams.{decoded-length}
+use Rattle.majority.specs.Plain.{decoded}
+use Rattle.majority.proofs.Plain.{decoded-length}
 use Rattle.burst.specs.Parts.{cardFrom}
 use Rattle.burst.proofs.OneParityReceiving.{all-within}
 use Rattle.outcomes.proofs.Answers.{answer-is, counted-is}

@@ -1,0 +1,32 @@
+-- What comes out where digits are erased: document 02, R-6. Which checks vote is pinned by these rows, since the theorem holds whichever do. `handed c frames erased`
+-- are the frames handed out: the first circuit's here, and the second's.
+-- Assumes nothing.
+use Prim.Native.Nat.{ℕ}
+use mathlib.Core.Path.{_≡_}
+use mathlib.Core.List.{List, [], _∷_}
+use Rattle.code.specs.Bench.{P, Q, R, T}
+use Rattle.code.specs.declared.Card.{Card}
+
+pub record ErasedRows (handed : Card → List ℕ → List ℕ → List ℕ) : Type 0 where
+  -- Q, in what is sent for 1 as 3, 2, 0, 2: parity digit 0 is wrong and frame 1 lost, "and taking an erased digit as 0 makes a wrong vote of it half the time"
+  pub frame-lost : handed Q (1 ∷ 0 ∷ 0 ∷ 2 ∷ []) (0 ∷ 3 ∷ 0 ∷ 0 ∷ []) ≡ 1 ∷ []
+  pub frame-not-lost : handed Q (1 ∷ 0 ∷ 0 ∷ 2 ∷ []) [] ≡ 0 ∷ []
+  -- "J in the decision is the number of checks that do": s3 alone votes, and puts the digit right
+  pub one-vote : handed Q (0 ∷ 0 ∷ 0 ∷ 2 ∷ []) (2 ∷ 2 ∷ 0 ∷ 0 ∷ []) ≡ 1 ∷ []
+  -- an erased own digit of 1 is put right by its checks, and one of them may be wrong
+  pub own-lost : handed Q (2 ∷ 2 ∷ 0 ∷ 0 ∷ []) (1 ∷ 0 ∷ 0 ∷ 0 ∷ []) ≡ 1 ∷ []
+  -- "if none votes, the decided error is 0", though every check is 1
+  pub no-vote : handed Q (1 ∷ 0 ∷ 0 ∷ 0 ∷ []) (2 ∷ 2 ∷ 0 ∷ 2 ∷ []) ≡ 1 ∷ []
+  pub no-vote-not-lost : handed Q (1 ∷ 0 ∷ 0 ∷ 0 ∷ []) [] ≡ 0 ∷ []
+  -- every digit is erased
+  pub all-lost : handed P (0 ∷ 0 ∷ 0 ∷ 0 ∷ []) (3 ∷ 3 ∷ 3 ∷ 3 ∷ []) ≡ 0 ∷ 0 ∷ 0 ∷ []
+  -- every second digit is erased. P sends 1, 1, 0 as 3, 1, 2, 0: of the parity digits alone all come out, of the information digits alone as well
+  pub information-lost : handed P (2 ∷ 0 ∷ 2 ∷ 0 ∷ []) (1 ∷ 1 ∷ 1 ∷ 1 ∷ []) ≡ 1 ∷ 1 ∷ 0 ∷ []
+  pub parity-lost : handed P (1 ∷ 1 ∷ 0 ∷ 0 ∷ []) (2 ∷ 2 ∷ 2 ∷ 2 ∷ []) ≡ 1 ∷ 1 ∷ 0 ∷ []
+  -- "at a time not yet decided": P sends 1, 1 as 3, 1, 2. Frame 0 is lost and put right; then both checks vote on digit 1, the second of them wrongly: a tie
+  pub decided-times : handed P (0 ∷ 1 ∷ 0 ∷ []) (3 ∷ 0 ∷ 0 ∷ []) ≡ 1 ∷ 1 ∷ []
+  -- a check of two syndromes: R's s1 + s5 touches the parity digits of times 1 and 5, and not that of time 2; s0, s3, s4 and it are 1, 0, 0, 1
+  pub two-syndromes : handed R (2 ∷ 2 ∷ 0 ∷ 0 ∷ 0 ∷ 0 ∷ []) (0 ∷ 0 ∷ 2 ∷ 2 ∷ 0 ∷ 0 ∷ []) ≡ 1 ∷ []
+  pub two-syndromes-lost : handed R (2 ∷ 2 ∷ 0 ∷ 0 ∷ 0 ∷ 0 ∷ []) (0 ∷ 0 ∷ 2 ∷ 2 ∷ 0 ∷ 2 ∷ []) ≡ 0 ∷ []
+  -- T sends 3 as 3, 4, 4: the digit of stream 2 is erased, and s0 votes on it and not on that of stream 1
+  pub other-stream : handed T (1 ∷ 4 ∷ 4 ∷ []) (2 ∷ 0 ∷ 0 ∷ []) ≡ 3 ∷ []
