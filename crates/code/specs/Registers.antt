@@ -5,9 +5,10 @@ use Prim.Native.Nat.{ℕ, _+_, _-_, _*_, _/_, _%_, _^_, min}
 use mathlib.Core.Bool.{cond}
 use mathlib.Core.List.{List, _++_}
 use lib.ListN.{getD, drop, replicate}
+use lib.Bits.{bitXor}
 use lib.Dec.{ltb}
 use Rattle.bits.specs.Sums.{sumBelow, upTo}
-use Rattle.bits.specs.Digits.{bit, fromDigits, dot}
+use Rattle.bits.specs.Digits.{bit, fromDigits, shiftUp, dot}
 
 -- the mask of information stream i and parity stream j, zero beyond the table
 unfoldable pub generatorMask : List ℕ → ℕ → ℕ → ℕ
@@ -32,6 +33,10 @@ digitBy g h k f s = cond (ltb s (min k 4)) (bit f s) (parityBy g h k (s - min k 
 -- the frame that is sent, eight digits at most
 unfoldable pub frameBy : List ℕ → List ℕ → ℕ → ℕ → ℕ → ℕ
 frameBy g h k p f = fromDigits (min k 4 + min p (8 - min k 4)) (digitBy g h k f)
+
+-- the registers of eight streams with the digits of a frame of n streams put in at place a, zero beyond these
+unfoldable pub withDigits : List ℕ → ℕ → ℕ → ℕ → List ℕ
+withDigits y f n a = upTo (min n 8) (λ s. bitXor (getD y s 0) (shiftUp (bit f s) a)) ++ drop (min n 8) (replicate 8 0)
 
 -- the registers of eight streams for the next frame, every digit a place further
 unfoldable pub movedOn : List ℕ → List ℕ

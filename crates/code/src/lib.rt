@@ -2,7 +2,7 @@
 // the last one taken.
 ghost use mathlib.Core.Path.{_≡_};
 ghost use Prim.Native.Nat.{_<_};
-ghost use Rattle.code.specs.Registers.{generatorMask, shiftIn, historyBy, parityBy, frameBy, movedOn};
+ghost use Rattle.code.specs.Registers.{generatorMask, shiftIn, historyBy, parityBy, frameBy, withDigits, movedOn};
 
 // A stream has at most this many frames, the tail included.
 pub const MOST_FRAMES: usize = 1048576;
@@ -79,6 +79,20 @@ pub fn frame(generators: &[u32; 32], registers: &[u32; 4], k: usize, p: usize, i
         j += 1;
     }
     digits
+}
+
+// The registers of eight streams with the digits of a frame of n streams put in at a place. More streams than there are registers are not looked at.
+pub fn with_digits(held: &[u32; 8], frame: u32, n: usize, place: usize) -> [u32; 8]
+    ensures { λ r. ⌜ r ≡ withDigits (now (held .entry)) frame n place ⌝ }
+{
+    let streams = bits::at_most(n, 8);
+    let mut next = [0u32; 8];
+    let mut s = 0;
+    while s < streams {
+        next[s] = bits::word(held, s) ^ bits::shift_up(bits::digit(frame, s), place);
+        s += 1;
+    }
+    next
 }
 
 // The registers of eight streams for the next frame, every digit a place further.
