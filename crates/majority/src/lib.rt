@@ -6,7 +6,7 @@ ghost use mathlib.Core.Bool.{cond};
 ghost use Prim.Native.Nat.{_*_, _<_, _≤_};
 ghost use lib.Bits.{bitAnd};
 ghost use lib.Dec.{ltb};
-ghost use Rattle.majority.specs.Voting.{checkBy, votesBy, streamVotesBy, decideBy};
+ghost use Rattle.majority.specs.Voting.{checkBy, votesBy, streamCheckBy, streamVotesBy, decideBy};
 
 // The digits that are 1 in both.
 fn common(x: u32, y: u32) -> u32
@@ -41,6 +41,20 @@ fn votes(checks: &[u32; 512], i: usize, count: usize, syndromes: &[u32; 8], p: u
         q += 1;
     }
     u32::count_ones(word)
+}
+
+// Check q of stream i on words that stand for syndromes, 0 or 1. A stream or a check that the tables do not have gives 0, and words that they do not have
+// are not looked at.
+pub fn stream_check(checks: &[u32; 512], i: usize, q: usize, words: &[u32; 8], p: usize) -> u32
+    ensures { λ r. ⌜ r ≡ streamCheckBy (now (checks .entry)) i q (now (words .entry)) p ⌝ }
+{
+    if 4 <= i {
+        return 0;
+    }
+    if 16 <= q {
+        return 0;
+    }
+    check(checks, i * 128 + q * 8, words, bits::at_most(p, 8))
 }
 
 // How many of the first checks of stream i are 1, on words that stand for syndromes. A stream, checks or words that the tables do not have are not looked
