@@ -98,7 +98,7 @@ module _ (counts checks syndromes : List ℕ) (k p : ℕ) where
 
   -- registers that hold no 1 vote for nothing
   module _ (none : (j : ℕ) → j < p → getD syndromes j 0 ≡ 0) where
-    check-none : (at : ℕ) → checkBy checks at syndromes (min p 8) ≡ 0
+    pub check-none : (at : ℕ) → checkBy checks at syndromes (min p 8) ≡ 0
     unfolding checkBy
     check-none at =
         ap (λ n. n % 2) (sum-none (min p 8) (λ j. dot (getD checks (at + j) 0) (getD syndromes j 0)) (λ j l. dot-none _ (none j (omega arith))))

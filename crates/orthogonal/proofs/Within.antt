@@ -67,7 +67,7 @@ module _ (c : Card) (m-most : c .m ≤ 31) (mask : ℕ → ℕ) (within : (j : �
         ap (λ x. besides i b s * (x * touched b s)) (none-after b s (omega arith)) ∙ ap (λ x. besides i b s * x) (zero-mul (touched b s)) ∙ mul-zero (besides i b s)))
         ∙ sum-cong (suc (c .m)) (λ b. sum-cong (c .k + c .p) (λ s. ap (λ x. besides i b s * (x * touched b s)) (touches-within b s)))
 
-    judge-within : judge words i mask touched ≡ judge c i mask touched
+    pub judge-within : judge words i mask touched ≡ judge c i mask touched
     judge-within =
         judge-same words c i mask mask touched touched (touches-within 0 i) (λ z. sym clashes-within ∙ z) (λ z. clashes-within ∙ z)
 

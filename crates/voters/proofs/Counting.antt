@@ -1,0 +1,180 @@
+-- The vote on registers, for tables and registers of every value: what it is at most, one check and one stream more, registers that hold no 1, and
+-- registers by which nothing is erased.
+use Prim.Native.Nat.{ℕ, _+_, _*_, _^_, _≤_, _<_, min, zero-le}
+use mathlib.Core.Path.{_≡_, refl, ap, ap₂, _∙_}
+use mathlib.Core.Bool.{Bool, true, false, cond}
+use mathlib.Core.List.{List}
+use native.Mathlib.Nat.{mul-zero, mul-one, one-mul, mul-le-mul-left, le-trans, le-of-eq, lt-of-lt-of-le}
+use native.Mathlib.Omega.{arith}
+use lib.ListN.{getD}
+use lib.Dec.{ltb, eqb}
+use lib.Pow.{pow-mono}
+use borrow.Author.Tests.{lt-ltb, le-ltb, eq-eqb}
+use Rattle.bits.specs.Sums.{sumBelow}
+use Rattle.bits.specs.Digits.{bit, fromDigits, shiftUp}
+use Rattle.bits.proofs.Sums.{sum-cong, sum-const, sum-mono, sum-none, sum-step}
+use Rattle.bits.proofs.Cases.{cond-le}
+use Rattle.bits.proofs.Digits.{bit-of-zero, from-digits-lt, from-digits-same}
+use Rattle.bits.proofs.Words.{placed-fits, placed-more}
+use Rattle.code.specs.Checks.{touchesBy}
+use Rattle.code.specs.Judging.{clashes, judge}
+use Rattle.code.specs.declared.Card.{Card}
+use Rattle.code.proofs.Judging.{no-clash}
+use Rattle.orthogonal.specs.Pass.{holds, wordCode, informationStreams, parityStreams, firstMasks}
+use Rattle.majority.specs.Voting.{checkBy, streamCheckBy, votesBy, majorityBy, decideBy}
+use Rattle.majority.proofs.Voting.{check-lt, check-none}
+use Rattle.voters.specs.Voters.{masksAt, votingBy, votersBy, onesBy, streamVotersBy, streamOnesBy, majorityVotingBy, decideVotingBy}
+
+-- a check without a clash, whether it touches its own digit or not
+votes-unclashed : (own : Bool) → _≡_ {A = ℕ} (cond (eqb (cond own 0 8) 9) 0 1) 1
+votes-unclashed true = refl
+votes-unclashed false = refl
+
+module _ (generators checks erased : List ℕ) (k p i : ℕ) where
+  abbrev code : Card
+  code = wordCode generators (informationStreams k) (parityStreams k p)
+
+  abbrev mask : ℕ → ℕ → ℕ
+  mask q = firstMasks (parityStreams k p) (masksAt checks (i * 128 + q * 8))
+
+  pub voting-le : (q : ℕ) → votingBy generators checks erased k p i q ≤ 1
+  unfolding votingBy
+  voting-le q = cond-le (eqb (judge code i (mask q) (holds erased)) 9) 0 1 1 (omega arith) (omega arith)
+
+  pub voters-le : (n : ℕ) → votersBy generators checks erased k p i n ≤ n
+  unfolding votersBy
+  voters-le n = le-trans (sum-mono n _ (λ q. 1) (λ q l. voting-le q)) (le-of-eq (sum-const n 1 ∙ mul-one n))
+
+  -- one check more
+  pub voters-more : (q : ℕ) {v d : ℕ} → v ≡ votersBy generators checks erased k p i q → d ≡ votingBy generators checks erased k p i q
+      → v + d ≡ votersBy generators checks erased k p i (q + 1)
+  unfolding votersBy
+  voters-more q e r = sum-step q (votingBy generators checks erased k p i) e r
+
+  module _ (words : List ℕ) where
+    vote-le : (q : ℕ) → votingBy generators checks erased k p i q * checkBy checks (i * 128 + q * 8) words p ≤ votingBy generators checks erased k p i q
+    vote-le q =
+        let l : checkBy checks (i * 128 + q * 8) words p ≤ 1 = omega (arith, check-lt checks (i * 128 + q * 8) words p) in
+        le-trans (mul-le-mul-left (votingBy generators checks erased k p i q) l) (le-of-eq (mul-one (votingBy generators checks erased k p i q)))
+
+    pub ones-le : (n : ℕ) → onesBy generators checks words erased k p i n ≤ votersBy generators checks erased k p i n
+    unfolding onesBy votersBy
+    ones-le n = sum-mono n _ _ (λ q l. vote-le q)
+
+    module _ (q : ℕ) (li : i < 4) (lq : q < 16) (lp : p ≤ 8) {d r : ℕ} (e : d ≡ votingBy generators checks erased k p i q) (f : r ≡ streamCheckBy checks i q words p) where
+      -- the check within the tables
+      check-there : r ≡ checkBy checks (i * 128 + q * 8) words p
+      unfolding streamCheckBy
+      check-there =
+          let ep : min p 8 ≡ p = omega arith in
+          f ∙ rw (lt-ltb i 4 li, lt-ltb q 16 lq) (ap (λ n. checkBy checks (i * 128 + q * 8) words n) ep)
+
+      vote-is : d * r ≡ votingBy generators checks erased k p i q * checkBy checks (i * 128 + q * 8) words p
+      vote-is = ap₂ _*_ e check-there
+
+      pub vote-most : d * r ≤ 1
+      vote-most = omega (arith, vote-is, vote-le q, voting-le q)
+
+      pub ones-more : {o : ℕ} → o ≡ onesBy generators checks words erased k p i q → o + d * r ≡ onesBy generators checks words erased k p i (q + 1)
+      unfolding onesBy
+      ones-more g = sum-step q (λ q. votingBy generators checks erased k p i q * checkBy checks (i * 128 + q * 8) words p) g vote-is
+
+  -- registers by which no digit is erased
+  module _ (none : (s : ℕ) → s < min (k + p) 8 → getD erased s 0 ≡ 0) where
+    no-clashes : (q : ℕ) → clashes code i (mask q) (holds erased) ≡ 0
+    unfolding holds
+    no-clashes q =
+        no-clash code i (mask q) (holds erased)
+        (λ b s lb ls other t h.
+        let z = ap (λ x. bit x b) (none s (omega arith)) ∙ bit-of-zero b in
+        absurd (omega arith))
+
+    every-votes : (q : ℕ) → votingBy generators checks erased k p i q ≡ 1
+    unfolding votingBy judge
+    every-votes q =
+        ap (λ b. cond (eqb (cond (eqb (touchesBy code (mask q) 0 i) 1) (cond b 0 9) 8) 9) 0 1) (eq-eqb (clashes code i (mask q) (holds erased)) 0 (no-clashes q))
+        ∙ votes-unclashed (eqb (touchesBy code (mask q) 0 i) 1)
+
+    pub voters-plain : (n : ℕ) → votersBy generators checks erased k p i n ≡ n
+    unfolding votersBy
+    voters-plain n = sum-cong n every-votes ∙ sum-const n 1 ∙ mul-one n
+
+    pub ones-plain : (words : List ℕ) (n : ℕ) → onesBy generators checks words erased k p i n ≡ votesBy checks i n words p
+    unfolding onesBy votesBy
+    ones-plain words n = sum-cong n (λ q. ap (λ x. x * checkBy checks (i * 128 + q * 8) words p) (every-votes q) ∙ one-mul (checkBy checks (i * 128 + q * 8) words p))
+
+-- ---- a stream within the tables
+module _ (generators checks : List ℕ) (i n : ℕ) (erased : List ℕ) (k p : ℕ) (li : i < 4) where
+  pub stream-voters-there : streamVotersBy generators checks i n erased k p ≡ votersBy generators checks erased k (min p 8) i (min n 16)
+  unfolding streamVotersBy
+  stream-voters-there = rw (lt-ltb i 4 li)
+
+  pub stream-ones-there : (words : List ℕ) → streamOnesBy generators checks i n words erased k p ≡ onesBy generators checks words erased k (min p 8) i (min n 16)
+  unfolding streamOnesBy
+  stream-ones-there words = rw (lt-ltb i 4 li)
+
+-- ---- the decided errors, one stream after the other
+module _ (generators counts checks syndromes erased : List ℕ) (k p : ℕ) where
+  -- the decided error of stream i
+  abbrev pub errorVoting : ℕ → ℕ
+  errorVoting i = majorityVotingBy generators checks syndromes erased k (min p 8) i (min (getD counts i 0) 16)
+
+  error-lt : (i : ℕ) → errorVoting i < 2
+  unfolding majorityVotingBy
+  error-lt i =
+      let n = min (getD counts i 0) 16 in
+      let l = cond-le (ltb (votersBy generators checks erased k (min p 8) i n) (2 * onesBy generators checks syndromes erased k (min p 8) i n)) 1 0 1 (omega arith) (omega arith) in
+      omega arith
+
+  pub error-voting : (i : ℕ) {v o r : ℕ} → i < 4 → v ≡ streamVotersBy generators checks i (getD counts i 0) erased k p
+      → o ≡ streamOnesBy generators checks i (getD counts i 0) syndromes erased k p → r ≡ cond (ltb v (2 * o)) 1 0 → r ≡ errorVoting i
+  unfolding majorityVotingBy
+  error-voting i l e f g =
+      g ∙ ap₂ (λ v o. cond (ltb v (2 * o)) 1 0) (e ∙ stream-voters-there generators checks i (getD counts i 0) erased k p l)
+          (f ∙ stream-ones-there generators checks i (getD counts i 0) erased k p l syndromes)
+
+  -- one stream more
+  pub error-more : (i : ℕ) {e d : ℕ} → i < 32 → e ≡ fromDigits i errorVoting → d ≡ errorVoting i → (e + shiftUp d i < 2 ^ 32) × (e + shiftUp d i ≡ fromDigits (i + 1) errorVoting)
+  error-more i {e} {d} h q r =
+      let le : e < 2 ^ i = rw q (from-digits-lt i errorVoting (λ a l. error-lt a)) in
+      let ld : d < 2 = rw r (error-lt i) in
+      (placed-fits e d i le ld h, placed-more e d i le ld h errorVoting q r)
+
+  -- ---- what is decided
+  pub decide-voting-lt : decideVotingBy generators counts checks syndromes erased k p < 2 ^ 4
+  unfolding decideVotingBy
+  decide-voting-lt = lt-of-lt-of-le (from-digits-lt (min k 4) errorVoting (λ a l. error-lt a)) (pow-mono {i = min k 4} {j = 4} (omega arith))
+
+  pub decide-voting-lt-k : k ≤ 4 → decideVotingBy generators counts checks syndromes erased k p < 2 ^ k
+  unfolding decideVotingBy
+  decide-voting-lt-k h = lt-of-lt-of-le (from-digits-lt (min k 4) errorVoting (λ a l. error-lt a)) (pow-mono {i = min k 4} {j = k} (omega arith))
+
+  -- registers that hold no 1 vote for nothing
+  module _ (none : (j : ℕ) → j < p → getD syndromes j 0 ≡ 0) where
+    ones-none : (i n : ℕ) → onesBy generators checks syndromes erased k (min p 8) i n ≡ 0
+    unfolding onesBy
+    ones-none i n =
+        sum-none n _ (λ q l. ap (λ x. votingBy generators checks erased k (min p 8) i q * x) (check-none counts checks syndromes k p none (i * 128 + q * 8)) ∙ mul-zero _)
+
+    error-none : (i : ℕ) → errorVoting i ≡ 0
+    unfolding majorityVotingBy
+    error-none i =
+        let n = min (getD counts i 0) 16 in
+        let v = votersBy generators checks erased k (min p 8) i n in
+        let z : 2 * onesBy generators checks syndromes erased k (min p 8) i n ≡ 0 = omega (arith, ones-none i n) in
+        ap (λ o. cond (ltb v o) 1 0) z ∙ ap (λ b. cond b 1 0) (le-ltb v 0 zero-le)
+
+    pub decide-voting-none : decideVotingBy generators counts checks syndromes erased k p ≡ 0
+    unfolding decideVotingBy fromDigits
+    decide-voting-none = sum-none (min k 4) _ (λ i l. ap (λ d. d * 2 ^ i) (error-none i) ∙ omega arith)
+
+  -- registers by which no digit is erased decide as if there were none
+  pub decide-voting-plain : ((s : ℕ) → s < min (k + p) 8 → getD erased s 0 ≡ 0)
+      → decideVotingBy generators counts checks syndromes erased k p ≡ decideBy counts checks syndromes k p
+  unfolding decideVotingBy decideBy majorityVotingBy majorityBy
+  decide-voting-plain none =
+      from-digits-same (min k 4) _ _
+      (λ i l.
+      let n = min (getD counts i 0) 16 in
+      let none' : (s : ℕ) → s < min (k + min p 8) 8 → getD erased s 0 ≡ 0 = λ s ls. none s (omega arith) in
+      ap₂ (λ v o. cond (ltb v (2 * o)) 1 0) (voters-plain generators checks erased k (min p 8) i none' n) (ones-plain generators checks erased k (min p 8) i none' syndromes n))

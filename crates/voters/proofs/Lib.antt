@@ -1,0 +1,4 @@
+-- the vote on registers
+pub mod Counting
+-- the vote by the rule
+pub mod Voters
