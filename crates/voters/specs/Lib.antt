@@ -1,1 +1,2 @@
+pub mod ErasedDigits
 pub mod Voters

@@ -1,6 +1,8 @@
 // The vote where digits are erased: document 02, R-6. Bit b of erased register s is 1 if the digit of stream s at time u + b is erased, where the frame of time
 // u is decided next. A check that touches an erased digit other than its own does not vote. What a check touches is R-3's pass over it, the erased digits
 // given to it as the errors that were touched before.
+pub mod erased;
+
 ghost use mathlib.Core.Path.{_≡_};
 ghost use mathlib.Core.Bool.{cond};
 ghost use Prim.Native.Nat.{_<_, _≤_};
