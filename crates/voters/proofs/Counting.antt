@@ -10,7 +10,6 @@ use lib.ListN.{getD}
 use lib.Dec.{ltb, eqb}
 use lib.Pow.{pow-mono}
 use borrow.Author.Tests.{lt-ltb, le-ltb, eq-eqb}
-use Rattle.bits.specs.Sums.{sumBelow}
 use Rattle.bits.specs.Digits.{bit, fromDigits, shiftUp}
 use Rattle.bits.proofs.Sums.{sum-cong, sum-const, sum-mono, sum-none, sum-step}
 use Rattle.bits.proofs.Cases.{cond-le}
@@ -21,7 +20,7 @@ use Rattle.code.specs.Judging.{clashes, judge}
 use Rattle.code.specs.declared.Card.{Card}
 use Rattle.code.proofs.Judging.{no-clash}
 use Rattle.orthogonal.specs.Pass.{holds, wordCode, informationStreams, parityStreams, firstMasks}
-use Rattle.majority.specs.Voting.{checkBy, streamCheckBy, votesBy, majorityBy, decideBy}
+use Rattle.majority.specs.Voting.{checkBy, streamCheckBy, votesBy, streamVotesBy, majorityBy, decideBy}
 use Rattle.majority.proofs.Voting.{check-lt, check-none}
 use Rattle.voters.specs.Voters.{masksAt, votingBy, votersBy, onesBy, streamVotersBy, streamOnesBy, majorityVotingBy, decideVotingBy}
 
@@ -113,6 +112,18 @@ module _ (generators checks : List ℕ) (i n : ℕ) (erased : List ℕ) (k p : �
   unfolding streamOnesBy
   stream-ones-there words = rw (lt-ltb i 4 li)
 
+  -- .. by which no digit is erased
+  module _ (none : (s : ℕ) → s < min (k + p) 8 → getD erased s 0 ≡ 0) where
+    still-none : (s : ℕ) → s < min (k + min p 8) 8 → getD erased s 0 ≡ 0
+    still-none s l = none s (omega arith)
+
+    pub stream-voters-plain : streamVotersBy generators checks i n erased k p ≡ min n 16
+    stream-voters-plain = stream-voters-there ∙ voters-plain generators checks erased k (min p 8) i still-none (min n 16)
+
+    pub stream-ones-plain : (words : List ℕ) → streamOnesBy generators checks i n words erased k p ≡ streamVotesBy checks i n words p
+    unfolding streamVotesBy
+    stream-ones-plain words = stream-ones-there words ∙ ones-plain generators checks erased k (min p 8) i still-none words (min n 16) ∙ rw (lt-ltb i 4 li)
+
 -- ---- the decided errors, one stream after the other
 module _ (generators counts checks syndromes erased : List ℕ) (k p : ℕ) where
   -- the decided error of stream i
@@ -131,7 +142,7 @@ module _ (generators counts checks syndromes erased : List ℕ) (k p : ℕ) wher
   unfolding majorityVotingBy
   error-voting i l e f g =
       g ∙ ap₂ (λ v o. cond (ltb v (2 * o)) 1 0) (e ∙ stream-voters-there generators checks i (getD counts i 0) erased k p l)
-          (f ∙ stream-ones-there generators checks i (getD counts i 0) erased k p l syndromes)
+      (f ∙ stream-ones-there generators checks i (getD counts i 0) erased k p l syndromes)
 
   -- one stream more
   pub error-more : (i : ℕ) {e d : ℕ} → i < 32 → e ≡ fromDigits i errorVoting → d ≡ errorVoting i → (e + shiftUp d i < 2 ^ 32) × (e + shiftUp d i ≡ fromDigits (i + 1) errorVoting)

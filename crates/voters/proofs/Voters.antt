@@ -1,7 +1,7 @@
 -- Registers that hold which digits of times u to u + m are erased: the checks that vote by them are those that vote by the rule, and so is what is
 -- decided.
 use Prim.Native.Nat.{ℕ, suc, _+_, _-_, _*_, _^_, _≤_, _<_, min}
-use mathlib.Core.Path.{_≡_, refl, sym, ap, ap₂, _∙_}
+use mathlib.Core.Path.{_≡_, ap, ap₂, _∙_}
 use mathlib.Core.Bool.{cond}
 use mathlib.Core.Logic.{⊎-elim}
 use mathlib.Core.List.{List}
@@ -32,7 +32,7 @@ use Rattle.voters.specs.Voters.{masksAt, votingBy, votersBy, onesBy, str
 use Rattle.voters.proofs.Counting.{stream-voters-there, stream-ones-there}
 
 -- a check that touches its own digit is judged by its clashes alone
-pub votes-by-clashes : (c : Card) (i : ℕ) (mask : ℕ → ℕ) (touched : ℕ → ℕ → ℕ) → touchesBy c mask 0 i ≡ 1
+votes-by-clashes : (c : Card) (i : ℕ) (mask : ℕ → ℕ) (touched : ℕ → ℕ → ℕ) → touchesBy c mask 0 i ≡ 1
     → cond (eqb (judge c i mask touched) 9) 0 1 ≡ 1 - clashes c i mask touched
 unfolding judge
 votes-by-clashes c i mask touched own =
@@ -42,17 +42,17 @@ votes-by-clashes c i mask touched own =
     (λ n. rw (ne-eqb (clashes c i mask touched) 0 n) (omega arith))
     (same-or-not (clashes c i mask touched) 0))
 
-module _ (c : Card) (G : Guarantees c) (i q : ℕ) where
-  -- the masks that the pass is given
-  abbrev mask : ℕ → ℕ
-  mask = firstMasks (c .p) (masksAt (c .checks) (i * 128 + q * 8))
+-- the masks that the pass is given of check q of stream i
+abbrev mask : Card → ℕ → ℕ → ℕ → ℕ
+mask c i q = firstMasks (c .p) (masksAt (c .checks) (i * 128 + q * 8))
 
-  mask-is : (j : ℕ) → j < c .p → mask j ≡ checkMask c i q j
+module _ (c : Card) (G : Guarantees c) (i q : ℕ) where
+  mask-is : (j : ℕ) → j < c .p → mask c i q j ≡ checkMask c i q j
   unfolding masksAt checkMask
   mask-is j l =
       getD-take (c .p) (masksAt (c .checks) (i * 128 + q * 8)) j 0 l ∙ upTo-at 8 (λ j. getD (c .checks) (i * 128 + q * 8 + j) 0) j (omega (arith, G .n-most))
 
-  mask-within : (j : ℕ) → mask j < 2 ^ (c .m + 1)
+  mask-within : (j : ℕ) → mask c i q j < 2 ^ (c .m + 1)
   unfolding checkMask
   mask-within j =
       ⊎-elim
@@ -65,22 +65,22 @@ module _ (c : Card) (G : Guarantees c) (i q : ℕ) where
 module _ (c : Card) (G : Guarantees c) (erased : List ℕ) (u : ℕ) (marks : List ℕ)
     (held : (s b : ℕ) → s < c .k + c .p → b ≤ c .m → bit (getD marks s 0) b ≡ digit erased s (u + b)) where
   -- what a check touches by its own masks and those that the pass is given, of digits erased by the registers and by the stream
-  clashes-are : (i q : ℕ) → clashes c i (mask c G i q) (holds marks) ≡ clashes c i (checkMask c i q) (λ b s. digit erased s (u + b))
+  clashes-are : (i q : ℕ) → clashes c i (mask c i q) (holds marks) ≡ clashes c i (checkMask c i q) (λ b s. digit erased s (u + b))
   unfolding clashes holds
   clashes-are i q =
       sum-same (suc (c .m)) _ _ (λ b lb.
       sum-same (c .k + c .p) _ _ (λ s ls.
-      ap₂ (λ t e. besides i b s * (t * e)) (touches-same c (mask c G i q) (checkMask c i q) b s (mask-is c G i q) ls) (held s b ls (omega arith))))
+      ap₂ (λ t e. besides i b s * (t * e)) (touches-same c (mask c i q) (checkMask c i q) b s (mask-is c G i q) ls) (held s b ls (omega arith))))
 
   pub voting-is : (i q : ℕ) → i < c .k → q < count c i → votingBy (c .generators) (c .checks) marks (c .k) (c .p) i q ≡ voting c erased u i q
   unfolding votingBy voting touches
   voting-is i q li lq =
       let k-is : informationStreams (c .k) ≡ c .k = omega (arith, G .k-most) in
       let p-is : parityStreams (c .k) (c .p) ≡ c .p = omega (arith, G .n-most) in
-      let own = touches-same c (mask c G i q) (checkMask c i q) 0 i (mask-is c G i q) (omega arith) ∙ G .orthogonal i li .own q lq in
+      let own = touches-same c (mask c i q) (checkMask c i q) 0 i (mask-is c G i q) (omega arith) ∙ G .orthogonal i li .own q lq in
       ap₂ (λ k p. cond (eqb (judge (wordCode (c .generators) k p) i (firstMasks p (masksAt (c .checks) (i * 128 + q * 8))) (holds marks)) 9) 0 1) k-is p-is
-      ∙ ap (λ x. cond (eqb x 9) 0 1) (judge-within c (G .m-most) (mask c G i q) (mask-within c G i q) i (holds marks))
-      ∙ votes-by-clashes c i (mask c G i q) (holds marks) own
+      ∙ ap (λ x. cond (eqb x 9) 0 1) (judge-within c (G .m-most) (mask c i q) (mask-within c G i q) i (holds marks))
+      ∙ votes-by-clashes c i (mask c i q) (holds marks) own
       ∙ ap (λ x. 1 - x) (clashes-are i q)
 
   module _ (i : ℕ) (li : i < c .k) where
