@@ -24,7 +24,7 @@ use Rattle.code.specs.declared.Card.{Card}
 use Rattle.majority.specs.Rule as Rule
 use Rattle.majority.specs.Rule.{cleared, checkAt, decide}
 use Rattle.majority.specs.Plain.{decideFrame, NoneErased}
-use Rattle.majority.specs.Voting.{checkBy, votesBy, majorityBy, decideBy}
+use Rattle.majority.specs.Voting.{checkBy, streamCheckBy, votesBy, majorityBy, decideBy}
 use Rattle.majority.proofs.Plain.{none-erased, decide-plain}
 
 -- the ones of what two words have in common
@@ -56,6 +56,13 @@ word-more v d q h l = rw add-one (omega arith)
 pub check-lt : (checks : List ℕ) (at : ℕ) (syndromes : List ℕ) (p : ℕ) → checkBy checks at syndromes p < 2
 unfolding checkBy
 check-lt checks at syndromes p = mod-lt _ (zero-lt-suc 1)
+
+pub stream-check-lt : (checks : List ℕ) (i q : ℕ) (words : List ℕ) (p : ℕ) → streamCheckBy checks i q words p < 2
+unfolding streamCheckBy
+stream-check-lt checks i q words p =
+    let l : checkBy checks (i * 128 + q * 8) words (min p 8) ≤ 1 = omega (arith, check-lt checks (i * 128 + q * 8) words (min p 8)) in
+    let m = cond-le (ltb i 4) (cond (ltb q 16) (checkBy checks (i * 128 + q * 8) words (min p 8)) 0) 0 1 (cond-le (ltb q 16) _ 0 1 l zero-le) zero-le in
+    omega arith
 
 -- ---- the decided errors, one stream after the other
 pub majority-lt : (checks syndromes : List ℕ) (p i n : ℕ) → majorityBy checks syndromes p i n < 2

@@ -19,7 +19,7 @@ use Rattle.code.specs.Checks.{touchesBy}
 use Rattle.code.specs.Judging.{clashes, judge}
 use Rattle.code.specs.declared.Card.{Card}
 use Rattle.code.proofs.Judging.{no-clash}
-use Rattle.orthogonal.specs.Pass.{holds, wordCode, informationStreams, parityStreams, firstMasks}
+use Rattle.orthogonal.specs.Pass.{holds, Passed, wordCode, informationStreams, parityStreams, firstMasks}
 use Rattle.majority.specs.Voting.{checkBy, streamCheckBy, votesBy, streamVotesBy, majorityBy, decideBy}
 use Rattle.majority.proofs.Voting.{check-lt, check-none}
 use Rattle.voters.specs.Voters.{masksAt, votingBy, votersBy, onesBy, streamVotersBy, streamOnesBy, majorityVotingBy, decideVotingBy}
@@ -35,6 +35,14 @@ module _ (generators checks erased : List ℕ) (k p i : ℕ) where
 
   abbrev mask : ℕ → ℕ → ℕ
   mask q = firstMasks (parityStreams k p) (masksAt checks (i * 128 + q * 8))
+
+  -- a check whose masks the pass was given, the erased digits as the errors touched before
+  pub voting-by-pass : (q : ℕ) {masks after : List ℕ} {number r : ℕ} → Passed code i (firstMasks (parityStreams k p) masks) erased number after
+      → masks ≡ masksAt checks (i * 128 + q * 8) → r ≡ cond (eqb number 9) 0 1 → r ≡ votingBy generators checks erased k p i q
+  unfolding votingBy
+  voting-by-pass q P e f =
+      f ∙ ap (λ number. cond (eqb number 9) 0 1) (P .number-is)
+      ∙ ap (λ masks. cond (eqb (judge code i (firstMasks (parityStreams k p) masks) (holds erased)) 9) 0 1) e
 
   pub voting-le : (q : ℕ) → votingBy generators checks erased k p i q ≤ 1
   unfolding votingBy
@@ -68,15 +76,9 @@ module _ (generators checks erased : List ℕ) (k p i : ℕ) where
           let ep : min p 8 ≡ p = omega arith in
           f ∙ rw (lt-ltb i 4 li, lt-ltb q 16 lq) (ap (λ n. checkBy checks (i * 128 + q * 8) words n) ep)
 
-      vote-is : d * r ≡ votingBy generators checks erased k p i q * checkBy checks (i * 128 + q * 8) words p
-      vote-is = ap₂ _*_ e check-there
-
-      pub vote-most : d * r ≤ 1
-      vote-most = omega (arith, vote-is, vote-le q, voting-le q)
-
       pub ones-more : {o : ℕ} → o ≡ onesBy generators checks words erased k p i q → o + d * r ≡ onesBy generators checks words erased k p i (q + 1)
       unfolding onesBy
-      ones-more g = sum-step q (λ q. votingBy generators checks erased k p i q * checkBy checks (i * 128 + q * 8) words p) g vote-is
+      ones-more g = sum-step q (λ q. votingBy generators checks erased k p i q * checkBy checks (i * 128 + q * 8) words p) g (ap₂ _*_ e check-there)
 
   -- registers by which no digit is erased
   module _ (none : (s : ℕ) → s < min (k + p) 8 → getD erased s 0 ≡ 0) where

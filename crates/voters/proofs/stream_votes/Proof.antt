@@ -1,13 +1,14 @@
 -- The loop has counted the votes of the checks that it passed.
-use Prim.Native.Nat.{_-_, _*_, _≤_}
+use Prim.Native.Nat.{_-_, _≤_}
 use mathlib.Core.Path.{_≡_, refl, sym, ap₂, _∙_}
-use native.Mathlib.Nat.{le-antisymm}
+use native.Mathlib.Nat.{le-antisymm, mul-le-mul}
 use native.Mathlib.Omega.{arith}
 use borrow.Author.Needs.{needs}
 use borrow.Author.Tests.{le-ltb}
 use Rattle.bits.specs.Sums.{sumBelow}
+use Rattle.majority.proofs.Voting.{stream-check-lt}
 use Rattle.voters.specs.Voters.{votersBy, onesBy, streamVotersBy, streamOnesBy}
-use Rattle.voters.proofs.Counting.{voting-le, voters-le, voters-more, ones-le, vote-most, ones-more, stream-voters-there, stream-ones-there}
+use Rattle.voters.proofs.Counting.{voting-le, voters-le, voters-more, ones-le, ones-more, stream-voters-there, stream-ones-there}
 use Rattle.voters.proofs.stream_votes.Statement.{statement}
 use Rattle.voters.proofs.stream_votes.Tie as tie
 
@@ -50,15 +51,22 @@ add-voting c =
 stream-check-requires : tie.Need-stream-check-requires Inv-loop μ-loop
 stream-check-requires c κs = search needs
 
--- the check's vote is one at most
-vote-le : (c : tie.After-stream-check Inv-loop μ-loop) → c .before .before .check-votes .result * c .stream-check .result ≤ 1
-vote-le c =
+-- whether the check votes is a digit, and so is the check
+votes-le : (c : tie.After-stream-check Inv-loop μ-loop) → c .before .before .check-votes .result ≤ 1
+votes-le c =
     let a = c .before .before .before .before .before .before .before .before .args in
-    vote-most (a .generators .now) (a .checks .now) (a .erased .now) (a .k) (c .before .before .before .before .before .at-most2 .result) (a .i) (a .words .now)
-    (c .before .before .before .before .loop .q) (omega arith) (omega arith) (omega arith) (c .before .before .check-votes .ensures) (c .stream-check .ensures)
+    rw (c .before .before .check-votes .ensures)
+    (voting-le (a .generators .now) (a .checks .now) (a .erased .now) (a .k) (c .before .before .before .before .before .at-most2 .result) (a .i)
+    (c .before .before .before .before .loop .q))
+
+check-le : (c : tie.After-stream-check Inv-loop μ-loop) → c .stream-check .result ≤ 1
+check-le c =
+    let a = c .before .before .before .before .before .before .before .before .args in
+    let l = stream-check-lt (a .checks .now) (a .i) (c .before .before .before .before .loop .q) (a .words .now) (c .before .before .before .before .before .at-most2 .result) in
+    omega (arith, c .stream-check .ensures)
 
 mul-ones : tie.Need-mul-ones Inv-loop μ-loop
-mul-ones c = omega (arith, vote-le c)
+mul-ones c = omega (arith, mul-le-mul (votes-le c) (check-le c))
 
 add-ones : tie.Need-add-ones Inv-loop μ-loop
 add-ones c =
@@ -67,7 +75,8 @@ add-ones c =
     let parities = c .before .before .before .before .before .at-most2 .result in
     omega (
       arith,
-      vote-le c,
+      check-le c,
+      mul-le-mul (votes-le c) (check-le c),
       ones-le (a .generators .now) (a .checks .now) (a .erased .now) (a .k) parities (a .i) (a .words .now) q,
       voters-le (a .generators .now) (a .checks .now) (a .erased .now) (a .k) parities (a .i) q,
     )
