@@ -53,10 +53,10 @@ module _ (generators checks erased : List ℕ) (k p i : ℕ) where
   voters-le n = le-trans (sum-mono n _ (λ q. 1) (λ q l. voting-le q)) (le-of-eq (sum-const n 1 ∙ mul-one n))
 
   -- one check more
-  pub voters-more : (q : ℕ) {v d : ℕ} → v ≡ votersBy generators checks erased k p i q → d ≡ votingBy generators checks erased k p i q
-      → v + d ≡ votersBy generators checks erased k p i (q + 1)
+  pub voters-more : (q : ℕ) {v d r : ℕ} → v ≡ votersBy generators checks erased k p i q → r ≡ d → d ≡ votingBy generators checks erased k p i q
+      → v + r ≡ votersBy generators checks erased k p i (q + 1)
   unfolding votersBy
-  voters-more q e r = sum-step q (votingBy generators checks erased k p i) e r
+  voters-more q e f g = sum-step q (votingBy generators checks erased k p i) e (f ∙ g)
 
   module _ (words : List ℕ) where
     vote-le : (q : ℕ) → votingBy generators checks erased k p i q * checkBy checks (i * 128 + q * 8) words p ≤ votingBy generators checks erased k p i q

@@ -72,16 +72,22 @@ module _ (c : Card) (G : Guarantees c) (erased : List ℕ) (u : ℕ) (marks : Li
       sum-same (c .k + c .p) _ _ (λ s ls.
       ap₂ (λ t e. besides i b s * (t * e)) (touches-same c (mask c i q) (checkMask c i q) b s (mask-is c G i q) ls) (held s b ls (omega arith))))
 
+  -- the pass judges the check as the card's code does
+  judged-is : (i q : ℕ)
+      → judge (wordCode (c .generators) (informationStreams (c .k)) (parityStreams (c .k) (c .p))) i
+      (firstMasks (parityStreams (c .k) (c .p)) (masksAt (c .checks) (i * 128 + q * 8))) (holds marks)
+      ≡ judge c i (mask c i q) (holds marks)
+  judged-is i q =
+      let k-is : informationStreams (c .k) ≡ c .k = omega (arith, G .k-most) in
+      let p-is : parityStreams (c .k) (c .p) ≡ c .p = omega (arith, G .n-most) in
+      ap₂ (λ k p. judge (wordCode (c .generators) k p) i (firstMasks p (masksAt (c .checks) (i * 128 + q * 8))) (holds marks)) k-is p-is
+      ∙ judge-within c (G .m-most) (mask c i q) (mask-within c G i q) i (holds marks)
+
   pub voting-is : (i q : ℕ) → i < c .k → q < count c i → votingBy (c .generators) (c .checks) marks (c .k) (c .p) i q ≡ voting c erased u i q
   unfolding votingBy voting touches
   voting-is i q li lq =
-      let k-is : informationStreams (c .k) ≡ c .k = omega (arith, G .k-most) in
-      let p-is : parityStreams (c .k) (c .p) ≡ c .p = omega (arith, G .n-most) in
       let own = touches-same c (mask c i q) (checkMask c i q) 0 i (mask-is c G i q) (omega arith) ∙ G .orthogonal i li .own q lq in
-      ap₂ (λ k p. cond (eqb (judge (wordCode (c .generators) k p) i (firstMasks p (masksAt (c .checks) (i * 128 + q * 8))) (holds marks)) 9) 0 1) k-is p-is
-      ∙ ap (λ x. cond (eqb x 9) 0 1) (judge-within c (G .m-most) (mask c i q) (mask-within c G i q) i (holds marks))
-      ∙ votes-by-clashes c i (mask c i q) (holds marks) own
-      ∙ ap (λ x. 1 - x) (clashes-are i q)
+      ap (λ x. cond (eqb x 9) 0 1) (judged-is i q) ∙ votes-by-clashes c i (mask c i q) (holds marks) own ∙ ap (λ x. 1 - x) (clashes-are i q)
 
   module _ (i : ℕ) (li : i < c .k) where
     pub voters-are : votersBy (c .generators) (c .checks) marks (c .k) (c .p) i (count c i) ≡ voters c erased u i

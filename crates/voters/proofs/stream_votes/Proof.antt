@@ -94,7 +94,7 @@ loop-again c =
     let parities = c .before .before .before .before .before .at-most2 .result in
     let votes = c .before .before .check-votes .ensures in (
       omega arith,
-      voters-more (a .generators .now) (a .checks .now) (a .erased .now) (a .k) parities (a .i) (l .q) (l .inv .1) (c .before .index .ensures ∙ votes),
+      voters-more (a .generators .now) (a .checks .now) (a .erased .now) (a .k) parities (a .i) (l .q) (l .inv .1) (c .before .index .ensures) votes,
       ones-more (a .generators .now) (a .checks .now) (a .erased .now) (a .k) parities (a .i) (a .words .now) (l .q) (omega arith) (omega arith) (omega arith) votes
           (c .stream-check .ensures) (l .inv .2),
     )
