@@ -114,7 +114,7 @@ module _ (generators checks : List ℕ) (i n : ℕ) (erased : List ℕ) (k p : �
   unfolding streamOnesBy
   stream-ones-there words = rw (lt-ltb i 4 li)
 
-  -- .. by which no digit is erased
+  -- registers by which no digit is erased
   module _ (none : (s : ℕ) → s < min (k + p) 8 → getD erased s 0 ≡ 0) where
     still-none : (s : ℕ) → s < min (k + min p 8) 8 → getD erased s 0 ≡ 0
     still-none s l = none s (omega arith)

@@ -64,7 +64,7 @@ module _ (c : Card) (G : Guarantees c) (i q : ℕ) where
 
 module _ (c : Card) (G : Guarantees c) (erased : List ℕ) (u : ℕ) (marks : List ℕ)
     (held : (s b : ℕ) → s < c .k + c .p → b ≤ c .m → bit (getD marks s 0) b ≡ digit erased s (u + b)) where
-  -- what a check touches by its own masks and those that the pass is given, of digits erased by the registers and by the stream
+  -- the masks that the pass is given and the registers tell of the clashes that the check's masks and the stream tell of
   clashes-are : (i q : ℕ) → clashes c i (mask c i q) (holds marks) ≡ clashes c i (checkMask c i q) (λ b s. digit erased s (u + b))
   unfolding clashes holds
   clashes-are i q =

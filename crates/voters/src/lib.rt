@@ -59,7 +59,7 @@ fn check_votes(
     ensures { λ r. ⌜ r ≡ votingBy (now (generators .entry)) (now (checks .entry)) (now (erased .entry)) k p i q ⌝ }
 {
     let masks = masks_at(checks, i * 128 + q * 8);
-    // The pass adds the errors of a check that stands.
+    // A copy: the pass adds the errors of a check that stands to what it is lent.
     let mut touched = *erased;
     let judgement = orthogonal::pass(generators, &masks, &mut touched, k, p, i);
     vote_of(judgement)
