@@ -1,3 +1,4 @@
+pub mod Errors
 pub mod Step
 pub mod Composed
 pub mod Follow

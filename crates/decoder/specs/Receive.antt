@@ -8,13 +8,15 @@ use Rattle.code.specs.Registers.{historyBy}
 use Rattle.code.specs.declared.Card.{Card}
 use Rattle.receiving.specs.Answers.{Reply, frame}
 use Rattle.receiving.specs.Receive.{kOf, pOf, placeOf, Circuit, inTurn}
-use Rattle.majority.specs.Voting.{decideBy}
-use Rattle.decoder.specs.Registers.{withSyndromes, correctedBy, fedBackBy, onesBy}
+use Rattle.receiving.specs.Readings.{streamsOf}
+use Rattle.voters.specs.ErasedDigits.{nothingErased, erasedWith, erasedMoved}
+use Rattle.voters.specs.declared.erased.Erased.{Erased}
+use Rattle.decoder.specs.Registers.{withSyndromes, errorsBy, correctedBy, fedBackBy, onesBy}
 use Rattle.decoder.specs.declared.Session.{Session}
 
 -- a session that holds no digit, with so many frames counted as received
 abbrev pub freshOf : Card → ℕ → Session
-freshOf c received = record { card = c; history = replicate 4 0; syndromes = replicate 8 0; received = received }
+freshOf c received = record { card = c; history = replicate 4 0; syndromes = replicate 8 0; erased = nothingErased; received = received }
 
 -- ---- a frame that is taken
 
@@ -31,13 +33,19 @@ unfoldable pub syndromesWith : Session → ℕ → List ℕ
 syndromesWith s f =
     withSyndromes (s .syndromes) (s .card .generators) (historyWith s f) (kOf (s .card)) (pOf (s .card)) f (placeIn s)
 
--- the session with the frame f, and nothing decided yet
-unfoldable pub withFrame : Session → ℕ → Session
-withFrame s f = record { card = s .card; history = historyWith s f; syndromes = syndromesWith s f; received = s .received + 1 }
+-- the registers of erased digits with the marks e of that frame
+unfoldable pub marksWith : Session → ℕ → Erased
+marksWith s e = erasedWith (s .erased) e (streamsOf (s .card .k) (s .card .p)) (placeIn s)
+
+-- the session with the frame f, of which the digits e are erased, and nothing decided yet
+unfoldable pub withFrame : Session → ℕ → ℕ → Session
+withFrame s f e =
+    record { card = s .card; history = historyWith s f; syndromes = syndromesWith s f; erased = marksWith s e; received = s .received + 1 }
 
 -- the decided errors of the frame that is decided next
 unfoldable pub errorsOf : Session → ℕ
-errorsOf s = decideBy (s .card .counts) (s .card .checks) (s .syndromes) (kOf (s .card)) (pOf (s .card))
+errorsOf s =
+    errorsBy (s .card .generators) (s .card .counts) (s .card .checks) (s .syndromes) (s .erased .any) (s .erased .marks) (kOf (s .card)) (pOf (s .card))
 
 -- that frame handed out, and the session with the decided errors fed back
 unfoldable pub handingOf : Session → Reply Session
@@ -48,13 +56,14 @@ handingOf s =
         card = s .card;
         history = s .history;
         syndromes = fedBackBy (s .syndromes) (s .card .generators) (errorsOf s) (kOf (s .card)) (pOf (s .card));
+        erased = erasedMoved (s .erased);
         received = s .received;
       };
     }
 
 -- a frame that is not refused
-unfoldable pub takenOf : Session → ℕ → Reply Session
-takenOf s f = inTurn (s .received) (s .card .m) (withFrame s f) handingOf
+unfoldable pub takenOf : Session → ℕ → ℕ → Reply Session
+takenOf s f e = inTurn (s .received) (s .card .m) (withFrame s f e) handingOf
 
 -- ---- the session
 

@@ -3,13 +3,17 @@
 -- Digit a of syndrome register j is the syndrome of parity stream j at u + a, where the frame of time u is decided next.
 -- Assumes nothing.
 use Prim.Native.Nat.{ℕ, _+_, _*_, _%_}
+use mathlib.Core.Bool.{cond}
 use mathlib.Core.List.{List, _++_}
 use lib.ListN.{getD, drop, replicate}
 use lib.Bits.{bitXor}
 use lib.Count.{ones}
+use lib.Dec.{eqb}
 use Rattle.bits.specs.Sums.{sumBelow, xorBelow, upTo}
 use Rattle.bits.specs.Digits.{bit, fromDigits, shiftUp}
 use Rattle.code.specs.Registers.{generatorMask, parityBy, movedOn}
+use Rattle.majority.specs.Voting.{decideBy}
+use Rattle.voters.specs.Voters.{decideVotingBy}
 
 -- the syndrome of parity stream j for a frame that the history registers h have already
 unfoldable pub syndromeBy : List ℕ → List ℕ → ℕ → ℕ → ℕ → ℕ
@@ -18,6 +22,10 @@ syndromeBy g h k f j = (bit f (k + j) + parityBy g h k j) % 2
 -- the syndrome registers with the syndromes of a frame put in at place a
 unfoldable pub withSyndromes : List ℕ → List ℕ → List ℕ → ℕ → ℕ → ℕ → ℕ → List ℕ
 withSyndromes y g h k p f a = upTo p (λ j. bitXor (getD y j 0) (shiftUp (syndromeBy g h k f j) a)) ++ drop p (replicate 8 0)
+
+-- the decided errors of the frame that is decided next, where `any` is 0 if nothing is erased, and else the registers `marks` say what is
+unfoldable pub errorsBy : List ℕ → List ℕ → List ℕ → List ℕ → ℕ → List ℕ → ℕ → ℕ → ℕ
+errorsBy g counts checks y any marks k p = cond (eqb any 0) (decideBy counts checks y k p) (decideVotingBy g counts checks y marks k p)
 
 -- the digit of stream i that is handed out: the one m back, plus its decided error in e
 unfoldable pub correctedDigit : List ℕ → ℕ → ℕ → ℕ → ℕ

@@ -8,6 +8,7 @@ use code::Card;
 use receiving::Answer;
 use receiving::ReadFrame;
 use receiving::Reading;
+use voters::erased::Erased;
 ghost use mathlib.Core.Path.{_≡_};
 ghost use Prim.Native.Nat.{_<_};
 ghost use Rattle.card.specs.Refusals.{numberOf};
@@ -22,6 +23,7 @@ pub struct Session {
     pub card: Card,
     pub history: [u32; 4], // bit a of register i: information digit i of the frame a before the last one received
     pub syndromes: [u32; 8], // bit a of register j: the syndrome of parity stream j, a after the frame that is decided next
+    pub erased: Erased, // which digits from that frame on are erased
     pub received: u32, // how many frames were taken
 }
 
@@ -45,6 +47,10 @@ fn fresh(card: Card, received: u32) -> Session
         card,
         history: [0u32; 4],
         syndromes: [0u32; 8],
+        erased: Erased {
+            marks: [0u32; 8],
+            any: 0,
+        },
         received,
     }
 }
@@ -69,10 +75,10 @@ fn refused(s: Session, refusal: Refusal) -> Received
     }
 }
 
-// The session with the digits and the syndromes of a frame more, and nothing decided yet.
-fn with_frame(s: Session, frame: u8) -> Session
+// The session with the digits, the syndromes and the marks of a frame more, and nothing decided yet.
+fn with_frame(s: Session, frame: u8, marks: u8) -> Session
     requires { ⌜ s .received < mostFrames ⌝ }
-    ensures { λ r. ⌜ r ≡ withFrame s frame ⌝ }
+    ensures { λ r. ⌜ r ≡ withFrame s frame marks ⌝ }
 {
     let card = s.card;
     let generators = card.generators;
@@ -85,10 +91,13 @@ fn with_frame(s: Session, frame: u8) -> Session
     let history = code::history(&before, k, digits);
     let syndromes = registers::with_syndromes(&held, &generators, &history, k, p, digits, place);
     let received = s.received + 1;
+    let n = receiving::stream_count(card.k, card.p);
+    let erased = voters::erased::with_frame(s.erased, marks as u32, n, place);
     Session {
         card,
         history,
         syndromes,
+        erased,
         received,
     }
 }
@@ -102,7 +111,18 @@ fn hand_out(s: Session) -> Received
     let held = s.syndromes;
     let k = bits::at_most(card.k, 4);
     let p = bits::at_most(card.p, 8);
-    let errors = registers::errors(&card.counts, &card.checks, &held, k, p);
+    let erased = s.erased;
+    let marks = erased.marks;
+    let errors = registers::errors(
+        &card.generators,
+        &card.counts,
+        &card.checks,
+        &held,
+        erased.any,
+        &marks,
+        k,
+        p,
+    );
     let frame = registers::corrected(&history, errors, k, card.m);
     let cleared = registers::taken_out(&held, &card.generators, errors, k, p);
     let syndromes = code::moved_on(&cleared);
@@ -112,20 +132,21 @@ fn hand_out(s: Session) -> Received
             card,
             history,
             syndromes,
+            erased: voters::erased::moved_on(erased),
             received: s.received,
         },
     }
 }
 
-// A frame that is not refused: the first m give 'waiting', each later one the frame m before it.
-fn take(s: Session, frame: u8) -> Received
+// A frame that is not refused, and which of its digits are erased: the first m give 'waiting', each later one the frame m before it.
+fn take(s: Session, frame: u8, marks: u8) -> Received
     requires { ⌜ s .received < mostFrames ⌝ }
-    ensures { λ r. ⌜ receivedOf r ≡ takenOf s frame ⌝ }
+    ensures { λ r. ⌜ receivedOf r ≡ takenOf s frame marks ⌝ }
 {
     let card = s.card;
     let m = card.m;
     let received = s.received;
-    let next = with_frame(s, frame);
+    let next = with_frame(s, frame, marks);
     if (received as usize) < m {
         return Received {
             answer: Answer::Waiting,
@@ -142,7 +163,7 @@ fn receive(s: Session, number: u8, read: ReadFrame) -> Received
     let card = s.card;
     let admitted = receiving::admit(card.number, s.received, number, read);
     match admitted {
-        ReadFrame::Frame(frame) => take(s, frame),
+        ReadFrame::Frame { digits, erased } => take(s, digits, erased),
         ReadFrame::Refused(refusal) => refused(s, refusal),
     }
 }

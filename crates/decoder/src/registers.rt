@@ -3,8 +3,7 @@
 ghost use mathlib.Core.Path.{_≡_};
 ghost use Prim.Native.Nat.{ℕ, _<_, _≤_};
 ghost use lib.ListN.{getD};
-ghost use Rattle.majority.specs.Voting.{decideBy};
-ghost use Rattle.decoder.specs.Registers.{syndromeBy, withSyndromes, correctedBy, feedbackBy, takenOutBy, onesBy};
+ghost use Rattle.decoder.specs.Registers.{syndromeBy, withSyndromes, errorsBy, correctedBy, feedbackBy, takenOutBy, onesBy};
 
 // The syndrome of parity stream j: its digit in the frame, plus the parity of the information digits in the history registers.
 fn syndrome(generators: &[u32; 32], history: &[u32; 4], k: usize, frame: u32, j: usize) -> u32
@@ -51,21 +50,27 @@ fn together(held: &[u32; 8], p: usize) -> u32
     all
 }
 
-// The decided errors of the frame that is decided next. While no syndrome held is 1 there is no vote.
+// The decided errors of the frame that is decided next. While no syndrome held is 1 there is no vote, and while nothing is erased all checks vote.
 pub(crate) fn errors<'a>(
+    generators: &'a [u32; 32],
     counts: &'a [usize; 4],
     checks: &'a [u32; 512],
     held: &[u32; 8],
+    any: u32,
+    marks: &[u32; 8],
     k: usize,
     p: usize,
 ) -> u32
     requires { ⌜ p ≤ 8 ⌝ }
-    ensures { λ r. ⌜ r ≡ decideBy (now (counts .entry)) (now (checks .entry)) (now (held .entry)) k p ⌝ }
+    ensures { λ r. ⌜ r ≡ errorsBy (now (generators .entry)) (now (counts .entry)) (now (checks .entry)) (now (held .entry)) any (now (marks .entry)) k p ⌝ }
 {
     if together(held, p) == 0 {
         return 0;
     }
-    majority::decide(counts, checks, held, k, p)
+    if any == 0 {
+        return majority::decide(counts, checks, held, k, p);
+    }
+    voters::decide(generators, counts, checks, held, marks, k, p)
 }
 
 // The frame of the digits m back in the history registers, each plus its decided error.

@@ -21,11 +21,16 @@ taken-out-requires c κs = search needs
 moved-on-requires : tie.Need-moved-on-requires
 moved-on-requires c κs = search needs
 
+moved-on-requires-2 : tie.Need-moved-on-requires-2
+moved-on-requires-2 c κs = search needs
+
 returns : tie.Need-returns
 returns c =
-    let d = c .before .before .before .before .before .before .before .before in
-    handing-is _ (d .before .before .before .before .before .before .at-most .ensures) (d .before .before .before .before .before .at-most2 .ensures) (d .errors .ensures)
-    (c .before .before .before .before .before .before .corrected .ensures) (c .before .before .taken-out .ensures) (c .moved-on .ensures)
+    let f = c .before .before .before .before .before .before .before in
+    let d = f .before .before in
+    let k = d .before .before .before .before .before .before .before .before .before .before in
+    handing-is _ (k .at-most .ensures) (d .before .before .before .before .before .before .before .before .before .at-most2 .ensures) (d .errors .ensures) (f .corrected .ensures)
+    (c .before .before .before .taken-out .ensures) (c .before .moved-on .ensures) (c .moved-on2 .ensures)
 
 pub hand-out-spec : {M : Type 1} → statement M
 hand-out-spec =
@@ -37,4 +42,5 @@ hand-out-spec =
     corrected-requires
     taken-out-requires
     moved-on-requires
+    moved-on-requires-2
     returns)

@@ -24,11 +24,18 @@ with-syndromes-requires c κs = search needs
 add-received : tie.Need-add-received
 add-received c = search needs
 
+stream-count-requires : tie.Need-stream-count-requires
+stream-count-requires c κs = search needs
+
+with-frame-requires : tie.Need-with-frame-requires
+with-frame-requires c κs = search needs
+
 returns : tie.Need-returns
 returns c =
-    let h = c .before .before .before .before .before in
-    with-frame-is _ (h .before .before .before .before .before .at-most .ensures) (h .before .before .before .before .at-most2 .ensures) _ (h .before .before .at-most3 .ensures)
-    (h .history .ensures) (c .before .with-syndromes .ensures)
+    let y = c .before .before .before in
+    let h = y .before .before .before .before in
+    with-frame-is _ (h .before .before .before .before .before .at-most .ensures) (h .before .before .before .before .at-most2 .ensures) _ _ (h .before .before .at-most3 .ensures)
+    (h .history .ensures) (y .with-syndromes .ensures) (c .before .stream-count .ensures) (c .with-frame .ensures)
 
 pub with-frame-spec : {M : Type 1} → statement M
 with-frame-spec =
@@ -41,4 +48,6 @@ with-frame-spec =
     history-requires
     with-syndromes-requires
     add-received
+    stream-count-requires
+    with-frame-requires
     returns)
