@@ -1,3 +1,4 @@
+pub mod Votes
 pub mod Loops
 pub mod Step
 pub mod Composed

@@ -13,8 +13,7 @@ use Rattle.bits.specs.Digits.{bit, fromDigits, shiftUp}
 use Rattle.bits.proofs.Cases.{cond-le}
 use Rattle.bits.proofs.Digits.{bit-le, bit-high, halved-whole, from-digits-lt}
 use Rattle.bits.proofs.Words.{xor-more, xor-cut, mask-times-lt}
-use Rattle.majority.specs.Voting.{streamVotesBy}
-use Rattle.digit_decoder.specs.Registers.{shareBy, sumsBy, othersBy, ownOf, enteringBy, majorityDigit, decideDigitBy, decideFrameBy}
+use Rattle.digit_decoder.specs.Registers.{shareBy, sumsBy, othersBy, ownOf, enteringBy, votingOf, onesOf, majorityDigit, decideDigitBy, decideFrameBy}
 
 -- ---- a stream's share of the sums
 
@@ -44,30 +43,31 @@ pub digit-le : (n ones own : ℕ) → own ≤ 1 → majorityDigit n ones own ≤
 unfolding majorityDigit
 digit-le n ones own h = cond-le (ltb n (2 * ones)) 1 _ 1 (omega arith) (cond-le (ltb (2 * ones) n) 0 own 1 (omega arith) h)
 
-module _ (counts checks g r sums : List ℕ) (p : ℕ) where
-  pub decided-lt : (i : ℕ) → decideDigitBy counts checks g r sums p i < 2
+module _ (counts checks g r sums : List ℕ) (any : ℕ) (marks : List ℕ) (k p : ℕ) where
+  pub decided-lt : (i : ℕ) → decideDigitBy counts checks g r sums any marks k p i < 2
   unfolding decideDigitBy
-  decided-lt i = let l = digit-le (min (getD counts i 0) 16) (streamVotesBy checks i (min (getD counts i 0) 16) (enteringBy g r sums p i) p) (ownOf r i) (bit-le _ 0) in omega arith
+  decided-lt i =
+      let n = min (getD counts i 0) 16 in
+      let l = digit-le (votingOf g checks i n any marks k p) (onesOf g checks i n (enteringBy g r sums p i) any marks k p) (ownOf r i) (bit-le _ 0) in omega arith
 
   -- what a turn works out
-  pub decided-is : (i : ℕ) {own n ones digit : ℕ} {words : List ℕ} → own ≡ ownOf r i → words ≡ othersBy sums g own i p → n ≡ min (getD counts i 0) 16
-      → ones ≡ streamVotesBy checks i n words p → digit ≡ majorityDigit n ones own → digit ≡ decideDigitBy counts checks g r sums p i
+  pub decided-is : (i : ℕ) {own n voting ones digit : ℕ} {words : List ℕ} → own ≡ ownOf r i → words ≡ othersBy sums g own i p → n ≡ min (getD counts i 0) 16
+      → voting ≡ votingOf g checks i n any marks k p → ones ≡ onesOf g checks i n words any marks k p → digit ≡ majorityDigit voting ones own
+      → digit ≡ decideDigitBy counts checks g r sums any marks k p i
   unfolding decideDigitBy enteringBy
-  decided-is i {own} {n} {ones} {digit} {words} eo ew en eq ed =
-      ed ∙ ap (λ v. majorityDigit n v own) (eq ∙ ap (λ w. streamVotesBy checks i n w p) ew)
-      ∙ ap₂ (λ m o. majorityDigit m (streamVotesBy checks i m (othersBy sums g o i p) p) o) en eo
+  decided-is i eo ew en ev eq ed = cc (eo, ew, en, ev, eq, ed)
 
-module _ (counts checks g r d : List ℕ) (k p : ℕ) where
-  decide-lt : decideFrameBy counts checks g r d k p < 2 ^ k
+module _ (counts checks g r d : List ℕ) (any : ℕ) (marks : List ℕ) (k p : ℕ) where
+  decide-lt : decideFrameBy counts checks g r d any marks k p < 2 ^ k
   unfolding decideFrameBy
-  decide-lt = from-digits-lt k _ (λ i l. decided-lt counts checks g r (sumsBy g r d k p) p i)
+  decide-lt = from-digits-lt k _ (λ i l. decided-lt counts checks g r (sumsBy g r d k p) any marks k p i)
 
   -- a frame of at most four digits is a byte
-  pub decide-fits : {frame : ℕ} → k ≤ 4 → frame ≡ decideFrameBy counts checks g r d k p → frame < 2 ^ 8
+  pub decide-fits : {frame : ℕ} → k ≤ 4 → frame ≡ decideFrameBy counts checks g r d any marks k p → frame < 2 ^ 8
   decide-fits l e = omega (arith, decide-lt, pow-mono {i = k} {j = 4} l)
 
   -- the end: every stream is decided
-  pub decide-end : {i frame : ℕ} {sums : List ℕ} → i ≤ k → k ≤ i → sums ≡ sumsBy g r d k p → frame ≡ fromDigits i (decideDigitBy counts checks g r sums p)
-      → frame ≡ decideFrameBy counts checks g r d k p
+  pub decide-end : {i frame : ℕ} {sums : List ℕ} → i ≤ k → k ≤ i → sums ≡ sumsBy g r d k p → frame ≡ fromDigits i (decideDigitBy counts checks g r sums any marks k p)
+      → frame ≡ decideFrameBy counts checks g r d any marks k p
   unfolding decideFrameBy
-  decide-end l h s e = e ∙ ap₂ (λ n sums. fromDigits n (decideDigitBy counts checks g r sums p)) (le-antisymm l h) s
+  decide-end l h s e = e ∙ ap₂ (λ n sums. fromDigits n (decideDigitBy counts checks g r sums any marks k p)) (le-antisymm l h) s

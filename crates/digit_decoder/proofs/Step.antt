@@ -23,21 +23,22 @@ use Rattle.bits.proofs.Words.{bit-up, bit-up-low, shift-digit}
 use Rattle.code.specs.Code.{generator, digit}
 use Rattle.code.specs.Checks.{count, checkMask, besides}
 use Rattle.code.specs.Guarantees.{Guarantees}
-use Rattle.code.specs.Registers.{generatorMask, movedOn}
+use Rattle.code.specs.Registers.{generatorMask}
 use Rattle.code.specs.declared.Card.{Card}
 use Rattle.code.proofs.Besides.{besides-own, besides-other}
 use Rattle.code.proofs.ParityLaws.{paritySum}
 use Rattle.code.proofs.Registers.{in-table}
+use Rattle.code.proofs.StreamRegisters.{DigitsAt}
 use Rattle.majority.specs.SecondCircuit.{entering, vote, votesForOne, decideDigit, decideDigits, decidedDigits}
-use Rattle.majority.specs.Voting.{checkBy, votesBy, streamVotesBy}
+use Rattle.majority.specs.Rule.{voters}
+use Rattle.majority.specs.Voting.{checkBy}
 use Rattle.majority.proofs.SecondCircuit.{digits-at}
-use Rattle.digit_decoder.specs.Registers.{shareBy, sumBy, sumsBy, othersBy, ownOf, enteringBy, majorityDigit, decideDigitBy, decideFrameBy, withDigits, withDecided}
+use Rattle.voters.specs.declared.erased.Erased.{Erased}
+use Rattle.voters.proofs.ErasedDigits.{ErasedAt}
+use Rattle.digit_decoder.specs.Registers.{shareBy, sumBy, sumsBy, othersBy, ownOf, enteringBy, votingOf, onesOf, majorityDigit, decideDigitBy, decideFrameBy, withDecided}
+use Rattle.digit_decoder.proofs.Votes.{voting-by-rule, ones-by-rule}
 
 -- ---- what the registers hold
-
--- the received digits of times u to n - 1
-abbrev pub DigitsAt : Card → List ℕ → ℕ → ℕ → List ℕ → Type 0
-DigitsAt c frames u n r = (s a : ℕ) → s < c .k + c .p → bit (getD r s 0) a ≡ held (digit frames s) u n a
 
 -- digit a of a register that holds the digits x of times before u: that of time u - (32 - a)
 unfoldable pub decidedAt : (ℕ → ℕ) → ℕ → ℕ → ℕ
@@ -124,7 +125,7 @@ module _ (frames digits : List ℕ) (u t s r d : ℕ) (R : (a : ℕ) → bit r a
 
 -- ---- the frame that is decided
 module _ (c : Card) (G : Guarantees c) (frames digits : List ℕ) (t u : ℕ) (hu : u + c .m ≡ t) (r d : List ℕ)
-    (R : DigitsAt c frames u (suc t) r) (D : DecidedAt c digits u d) where
+    (R : DigitsAt (c .k + c .p) frames u (suc t) r) (D : DecidedAt c digits u d) where
   -- the sum of parity stream j for time u + a: its digit, and the information digits that enter its parity
   sum-bit : (j a : ℕ) → j < c .p → a ≤ c .m
       → bit (sumBy (c .generators) r d (c .k) j) a ≡ (digit frames (c .k + j) (u + a) + paritySum c (seen frames digits u) j (u + a)) % 2
@@ -236,23 +237,26 @@ module _ (c : Card) (G : Guarantees c) (frames digits : List ℕ) (t u : ℕ) (h
         ∙ sum-mod (suc (c .m)) _ _ (λ a la. mul-mod-left (bit mask a) _ _ (other-bit j a lj (omega arith))))
 
     -- the digit as it is decided
-    digit-is : decideDigitBy (c .counts) (c .checks) (c .generators) r (sumsBy (c .generators) r d (c .k) (c .p)) (c .p) i ≡ decideDigit c frames digits u i
-    unfolding decideDigitBy decideDigit majorityDigit streamVotesBy votesBy votesForOne count
-    digit-is =
+    digit-is : (erased : List ℕ) (e : Erased) → ErasedAt (c .k + c .p) (G .n-most) erased u (suc t) e
+        → decideDigitBy (c .counts) (c .checks) (c .generators) r (sumsBy (c .generators) r d (c .k) (c .p)) (e .any) (e .marks) (c .k) (c .p) i
+        ≡ decideDigit c frames erased digits u i
+    unfolding decideDigitBy decideDigit majorityDigit votesForOne count
+    digit-is erased e E =
         let words = enteringBy (c .generators) r (sumsBy (c .generators) r d (c .k) (c .p)) (c .p) i in
         let n = getD (c .counts) i 0 in
         let en : min n 16 ≡ n = omega (arith, G .J-most i) in
-        let ep : min (c .p) 8 ≡ c .p = omega (arith, G .n-most) in
-        let ones : streamVotesBy (c .checks) i n words (c .p) ≡ votesForOne c frames digits u i =
-        rw (lt-ltb i 4 (omega (arith, G .k-most)), en, ep) (sum-cong n (λ q. vote-is q)) in
-        ap (λ (n : ℕ). majorityDigit n (streamVotesBy (c .checks) i n words (c .p)) (ownOf r i)) en
-        ∙ ap (λ (v : ℕ). majorityDigit n v (ownOf r i)) ones
-        ∙ ap (majorityDigit n (votesForOne c frames digits u i)) own-is
+        let v : u + c .m ≡ t = hu in
+        let at-u : ErasedAt (c .k + c .p) (G .n-most) erased u (suc (u + c .m)) e = rw v E in
+        ap (λ (n : ℕ). majorityDigit (votingOf (c .generators) (c .checks) i n (e .any) (e .marks) (c .k) (c .p))
+        (onesOf (c .generators) (c .checks) i n words (e .any) (e .marks) (c .k) (c .p)) (ownOf r i)) en
+        ∙ ap₂ (λ (n v : ℕ). majorityDigit n v (ownOf r i)) (voting-by-rule c G erased u e at-u i li) (ones-by-rule c G erased u e at-u i li words (vote c frames digits u i) (λ q l. vote-is q))
+        ∙ ap (majorityDigit (voters c erased u i) (votesForOne c frames erased digits u i)) own-is
 
   -- the frame
-  pub decide-is : decideFrameBy (c .counts) (c .checks) (c .generators) r d (c .k) (c .p) ≡ decideDigits c frames digits u
+  pub decide-is : (erased : List ℕ) (e : Erased) → ErasedAt (c .k + c .p) (G .n-most) erased u (suc t) e
+      → decideFrameBy (c .counts) (c .checks) (c .generators) r d (e .any) (e .marks) (c .k) (c .p) ≡ decideDigits c frames erased digits u
   unfolding decideFrameBy decideDigits
-  decide-is = from-digits-same (c .k) _ _ (λ i l. digit-is i l)
+  decide-is erased e E = from-digits-same (c .k) _ _ (λ i l. digit-is i l erased e E)
 
 -- ---- the next frame
 
@@ -294,27 +298,13 @@ module _ (x y : ℕ → ℕ) (u d v : ℕ) (same : (w : ℕ) → w < u → x w �
       ∙ ap (λ (n : ℕ). (n + bit (v * 2 ^ 31) a) % 2) (sym (bit-suc d a) ∙ D (suc a))
       ∙ ⊎-elim (beyond a) (λ (l : a < 32). ⊎-elim (newest a) (older a) (last-or-below l)) (le-or-lt 32 a)
 
-module _ (c : Card) (G : Guarantees c) (frames : List ℕ) where
-  -- the digits of time t, put in at their place
-  pub digits-next : (t f : ℕ) (r : List ℕ) → f ≡ getD frames t 0 → DigitsAt c frames (t - c .m) t r
-      → DigitsAt c frames (t - c .m) (suc t) (withDigits r f (c .k + c .p) (min t (c .m)))
-  unfolding withDigits digit
-  digits-next t f r hf R s a ls =
-      ap (λ (x : ℕ). bit x a) (part-at _ (replicate 8 0) (c .k + c .p) s ls)
-      ∙ put-in (λ v. bit (getD frames v 0) s) (t - c .m) t (getD r s 0) (λ b. R s b ls) (bit f s) (min t (c .m)) (ap (λ (x : ℕ). bit x s) hf) (bit-lt f s) (omega arith)
-      (omega (arith, G .m-most)) a
-
-  pub digits-moved : (u n : ℕ) (r : List ℕ) → DigitsAt c frames u n r → DigitsAt c frames (suc u) n (movedOn r)
-  unfolding movedOn
-  digits-moved u n r R s a ls =
-      ap (λ (x : ℕ). bit x a) (upTo-at 8 (λ j. getD r j 0 / 2) s (omega (arith, G .n-most))) ∙ moved (digit frames s) u n (getD r s 0) (λ b. R s b ls) a
-
+module _ (c : Card) (G : Guarantees c) (frames erased : List ℕ) where
   -- the frame of time u as it is decided, at the registers' upper end
-  pub decided-next : (u f : ℕ) (d : List ℕ) → f ≡ decideDigits c frames (decidedDigits c frames u) u → DecidedAt c (decidedDigits c frames u) u d
-      → DecidedAt c (decidedDigits c frames (suc u)) (suc u) (withDecided d f (c .k))
+  pub decided-next : (u f : ℕ) (d : List ℕ) → f ≡ decideDigits c frames erased (decidedDigits c frames erased u) u → DecidedAt c (decidedDigits c frames erased u) u d
+      → DecidedAt c (decidedDigits c frames erased (suc u)) (suc u) (withDecided d f (c .k))
   unfolding withDecided digit
   decided-next u f d hf D i a li =
       ap (λ (x : ℕ). bit x a) (part-at _ (replicate 4 0) (c .k) i li)
-      ∙ shifted (digit (decidedDigits c frames u) i) (digit (decidedDigits c frames (suc u)) i) u (getD d i 0) (bit f i)
-      (λ w l. ap (λ (x : ℕ). bit x i) (digits-at c frames u w l ∙ sym (digits-at c frames (suc u) w (omega arith))))
-      (ap (λ (x : ℕ). bit x i) (hf ∙ sym (digits-at c frames (suc u) u (omega arith)))) (bit-lt f i) (λ b. D i b li) a
+      ∙ shifted (digit (decidedDigits c frames erased u) i) (digit (decidedDigits c frames erased (suc u)) i) u (getD d i 0) (bit f i)
+      (λ w l. ap (λ (x : ℕ). bit x i) (digits-at c frames erased u w l ∙ sym (digits-at c frames erased (suc u) w (omega arith))))
+      (ap (λ (x : ℕ). bit x i) (hf ∙ sym (digits-at c frames erased (suc u) u (omega arith)))) (bit-lt f i) (λ b. D i b li) a

@@ -8,11 +8,12 @@ use mathlib.Core.Bool.{cond}
 use mathlib.Core.List.{List, _++_}
 use lib.ListN.{getD, drop, replicate}
 use lib.Bits.{bitXor}
-use lib.Dec.{ltb}
+use lib.Dec.{ltb, eqb}
 use Rattle.bits.specs.Sums.{xorBelow, upTo}
 use Rattle.bits.specs.Digits.{bit, fromDigits, shiftUp}
 use Rattle.code.specs.Registers.{generatorMask}
 use Rattle.majority.specs.Voting.{streamVotesBy}
+use Rattle.voters.specs.Voters.{streamVotersBy, streamOnesBy}
 
 -- what an information stream with the generator g adds to the sums of a parity stream: for each term both of its registers, moved by it
 unfoldable pub shareBy : ℕ → ℕ → ℕ → ℕ
@@ -41,19 +42,23 @@ enteringBy g r sums p i = othersBy sums g (ownOf r i) i p
 unfoldable pub majorityDigit : ℕ → ℕ → ℕ → ℕ
 majorityDigit n ones own = cond (ltb n (2 * ones)) 1 (cond (ltb (2 * ones) n) 0 own)
 
+-- how many of the first n checks of stream i vote on it, where `any` is 0 if nothing is erased, and else the registers `marks` say what is
+unfoldable pub votingOf : List ℕ → List ℕ → ℕ → ℕ → ℕ → List ℕ → ℕ → ℕ → ℕ
+votingOf g checks i n any marks k p = cond (eqb any 0) n (streamVotersBy g checks i n marks k p)
+
+-- and how many of those vote for 1
+unfoldable pub onesOf : List ℕ → List ℕ → ℕ → ℕ → List ℕ → ℕ → List ℕ → ℕ → ℕ → ℕ
+onesOf g checks i n words any marks k p = cond (eqb any 0) (streamVotesBy checks i n words p) (streamOnesBy g checks i n words marks k p)
+
 -- that digit as it is decided, by votes from which it is left out
-unfoldable pub decideDigitBy : List ℕ → List ℕ → List ℕ → List ℕ → List ℕ → ℕ → ℕ → ℕ
-decideDigitBy counts checks g r sums p i =
+unfoldable pub decideDigitBy : List ℕ → List ℕ → List ℕ → List ℕ → List ℕ → ℕ → List ℕ → ℕ → ℕ → ℕ → ℕ
+decideDigitBy counts checks g r sums any marks k p i =
     let n = min (getD counts i 0) 16 in
-    majorityDigit n (streamVotesBy checks i n (enteringBy g r sums p i) p) (ownOf r i)
+    majorityDigit (votingOf g checks i n any marks k p) (onesOf g checks i n (enteringBy g r sums p i) any marks k p) (ownOf r i)
 
 -- the frame of time u as it is decided
-unfoldable pub decideFrameBy : List ℕ → List ℕ → List ℕ → List ℕ → List ℕ → ℕ → ℕ → ℕ
-decideFrameBy counts checks g r d k p = fromDigits k (decideDigitBy counts checks g r (sumsBy g r d k p) p)
-
--- the received registers with the digits of a frame of n streams put in at place a
-unfoldable pub withDigits : List ℕ → ℕ → ℕ → ℕ → List ℕ
-withDigits r f n a = upTo n (λ s. bitXor (getD r s 0) (shiftUp (bit f s) a)) ++ drop n (replicate 8 0)
+unfoldable pub decideFrameBy : List ℕ → List ℕ → List ℕ → List ℕ → List ℕ → ℕ → List ℕ → ℕ → ℕ → ℕ
+decideFrameBy counts checks g r d any marks k p = fromDigits k (decideDigitBy counts checks g r (sumsBy g r d k p) any marks k p)
 
 -- the decided registers with the digits of a frame more
 unfoldable pub withDecided : List ℕ → ℕ → ℕ → List ℕ

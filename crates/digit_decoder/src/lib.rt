@@ -9,6 +9,7 @@ use code::Card;
 use receiving::Answer;
 use receiving::ReadFrame;
 use receiving::Reading;
+use voters::erased::Erased;
 ghost use mathlib.Core.Path.{_≡_};
 ghost use Prim.Native.Nat.{_<_};
 ghost use Rattle.card.specs.Refusals.{numberOf};
@@ -23,6 +24,7 @@ pub struct Session {
     pub card: Card,
     pub digits: [u32; 8], // bit a of register s: the digit of stream s received a after the frame that is decided next
     pub decided: [u32; 4], // bit 32 - b of register i: information digit i as decided, b before the frame that is decided next
+    pub erased: Erased, // which digits from that frame on are erased
     pub received: u32, // how many frames were taken
 }
 
@@ -46,6 +48,10 @@ fn fresh(card: Card, received: u32) -> Session
         card,
         digits: [0u32; 8],
         decided: [0u32; 4],
+        erased: Erased {
+            marks: [0u32; 8],
+            any: 0,
+        },
         received,
     }
 }
@@ -70,22 +76,24 @@ fn refused(s: Session, refusal: Refusal) -> Received
     }
 }
 
-// The session with the digits of a frame more, and nothing decided yet.
-fn with_frame(s: Session, frame: u8) -> Session
+// The session with the digits and the marks of a frame more, and nothing decided yet.
+fn with_frame(s: Session, frame: u8, marks: u8) -> Session
     requires { ⌜ s .received < mostFrames ⌝ }
-    ensures { λ r. ⌜ r ≡ withFrame s frame ⌝ }
+    ensures { λ r. ⌜ r ≡ withFrame s frame marks ⌝ }
 {
     let card = s.card;
     let held = s.digits;
     let decided = s.decided;
     let n = receiving::stream_count(card.k, card.p);
     let place = bits::at_most(s.received as usize, card.m);
-    let digits = registers::with_digits(&held, frame as u32, n, place);
+    let digits = code::with_digits(&held, frame as u32, n, place);
     let received = s.received + 1;
+    let erased = voters::erased::with_frame(s.erased, marks as u32, n, place);
     Session {
         card,
         digits,
         decided,
+        erased,
         received,
     }
 }
@@ -99,12 +107,16 @@ fn hand_out(s: Session) -> Received
     let earlier = s.decided;
     let k = bits::at_most(card.k, 4);
     let p = bits::at_most(card.p, 8);
+    let erased = s.erased;
+    let marks = erased.marks;
     let frame = registers::decide(
         &card.counts,
         &card.checks,
         &card.generators,
         &held,
         &earlier,
+        erased.any,
+        &marks,
         k,
         p,
     );
@@ -117,20 +129,21 @@ fn hand_out(s: Session) -> Received
             card,
             digits,
             decided,
+            erased: voters::erased::moved_on(erased),
             received: s.received,
         },
     }
 }
 
-// A frame that is not refused: the first m give 'waiting', each later one the frame m before it.
-fn take(s: Session, frame: u8) -> Received
+// A frame that is not refused, and which of its digits are erased: the first m give 'waiting', each later one the frame m before it.
+fn take(s: Session, frame: u8, marks: u8) -> Received
     requires { ⌜ s .received < mostFrames ⌝ }
-    ensures { λ r. ⌜ receivedOf r ≡ takenOf s frame ⌝ }
+    ensures { λ r. ⌜ receivedOf r ≡ takenOf s frame marks ⌝ }
 {
     let card = s.card;
     let m = card.m;
     let received = s.received;
-    let next = with_frame(s, frame);
+    let next = with_frame(s, frame, marks);
     if (received as usize) < m {
         return Received {
             answer: Answer::Waiting,
@@ -147,7 +160,7 @@ fn receive(s: Session, number: u8, read: ReadFrame) -> Received
     let card = s.card;
     let admitted = receiving::admit(card.number, s.received, number, read);
     match admitted {
-        ReadFrame::Frame(frame) => take(s, frame),
+        ReadFrame::Frame { digits, erased } => take(s, digits, erased),
         ReadFrame::Refused(refusal) => refused(s, refusal),
     }
 }

@@ -3,7 +3,8 @@
 // register, in which the digits move down past time u and become decided ones there.
 ghost use mathlib.Core.Path.{_≡_};
 ghost use Prim.Native.Nat.{_≤_, _<_};
-ghost use Rattle.digit_decoder.specs.Registers.{shareBy, sumBy, sumsBy, othersBy, majorityDigit, decideFrameBy, withDigits, withDecided};
+ghost use Rattle.digit_decoder.specs.Registers.{shareBy, sumBy, sumsBy, othersBy, votingOf, onesOf, majorityDigit, decideFrameBy, withDecided};
+use voters::Votes;
 
 // What the digits of an information stream add to the sums of a parity stream, digit a to that of time u + a: for each term of the generator both
 // registers, moved by it.
@@ -75,6 +76,30 @@ fn others(sums: &[u32; 8], generators: &[u32; 32], own: u32, i: usize, p: usize)
     next
 }
 
+// The votes on the digit of stream i. While nothing is erased all of its checks vote.
+fn votes<'a>(
+    generators: &'a [u32; 32],
+    checks: &'a [u32; 512],
+    i: usize,
+    count: usize,
+    words: &[u32; 8],
+    any: u32,
+    marks: &[u32; 8],
+    k: usize,
+    p: usize,
+) -> Votes
+    ensures { λ r. ⌜ (r .voting ≡ votingOf (now (generators .entry)) (now (checks .entry)) i count any (now (marks .entry)) k p)
+        × (r .ones ≡ onesOf (now (generators .entry)) (now (checks .entry)) i count (now (words .entry)) any (now (marks .entry)) k p) ⌝ }
+{
+    if any == 0 {
+        return Votes {
+            voting: count,
+            ones: majority::stream_votes(checks, i, count, words, p),
+        };
+    }
+    voters::stream_votes(generators, checks, i, count, words, marks, k, p)
+}
+
 // The majority of the votes; a tie goes to the received digit.
 fn digit(count: usize, votes: u32, own: u32) -> u32
     ensures { λ r. ⌜ r ≡ majorityDigit count votes own ⌝ }
@@ -95,11 +120,13 @@ pub(crate) fn decide<'a>(
     generators: &'a [u32; 32],
     received: &[u32; 8],
     decided: &[u32; 4],
+    any: u32,
+    marks: &[u32; 8],
     k: usize,
     p: usize,
 ) -> u32
     requires { ⌜ (k ≤ 4) × (p ≤ 8) ⌝ }
-    ensures { λ r. ⌜ r ≡ decideFrameBy (now (counts .entry)) (now (checks .entry)) (now (generators .entry)) (now (received .entry)) (now (decided .entry)) k p ⌝ }
+    ensures { λ r. ⌜ r ≡ decideFrameBy (now (counts .entry)) (now (checks .entry)) (now (generators .entry)) (now (received .entry)) (now (decided .entry)) any (now (marks .entry)) k p ⌝ }
 {
     let all = sums(generators, received, decided, k, p);
     let mut frame: u32 = 0;
@@ -108,25 +135,11 @@ pub(crate) fn decide<'a>(
         let own = bits::digit(bits::word(received, i), 0);
         let words = others(&all, generators, own, i, p);
         let count = bits::at_most(counts[i], 16);
-        let votes = majority::stream_votes(checks, i, count, &words, p);
-        frame = frame + bits::shift_up(digit(count, votes, own), i);
+        let cast = votes(generators, checks, i, count, &words, any, marks, k, p);
+        frame = frame + bits::shift_up(digit(cast.voting, cast.ones, own), i);
         i += 1;
     }
     frame
-}
-
-// The received registers with the digits of a frame of n streams put in at a place.
-pub(crate) fn with_digits(held: &[u32; 8], frame: u32, n: usize, place: usize) -> [u32; 8]
-    requires { ⌜ n ≤ 8 ⌝ }
-    ensures { λ r. ⌜ r ≡ withDigits (now (held .entry)) frame n place ⌝ }
-{
-    let mut next = [0u32; 8];
-    let mut s = 0;
-    while s < n {
-        next[s] = bits::word(held, s) ^ bits::shift_up(bits::digit(frame, s), place);
-        s += 1;
-    }
-    next
 }
 
 // The decided registers with the digits of a frame more; the oldest digits leave them.

@@ -36,7 +36,7 @@ module _ (c : Card) (erased : List ℕ) (u : ℕ) (none : NoneErased c erased u)
   all-vote i = sum-cong (count c i) (λ q. every-votes i q) ∙ sum-const (count c i) 1 ∙ mul-one (count c i)
 
   -- of some checks, those that vote are all
-  all-of : (i : ℕ) (which : ℕ → ℕ) → sumBelow (count c i) (λ q. voting c erased u i q * which q) ≡ sumBelow (count c i) which
+  pub all-of : (i : ℕ) (which : ℕ → ℕ) → sumBelow (count c i) (λ q. voting c erased u i q * which q) ≡ sumBelow (count c i) which
   all-of i which = sum-cong (count c i) (λ q. ap (λ x. x * which q) (every-votes i q) ∙ one-mul (which q))
 
   pub decide-plain : (frames errors : List ℕ) (i : ℕ)

@@ -23,14 +23,19 @@ moved-on-requires c κs = search needs
 cast-handed : tie.Need-cast-handed
 cast-handed c =
     let d = c .before .before .before .before in
-    let k = d .before .before .before .before .before .before .before .before .at-most in
-    record { fits = decide-fits _ _ _ _ _ _ _ (omega (arith, k .ensures)) (d .decide .ensures) }
+    let k = d .before .before .before .before .before .before .before .before .before .before .before .at-most in
+    record { fits = decide-fits _ _ _ _ _ _ _ _ _ (omega (arith, k .ensures)) (d .decide .ensures) }
+
+
+moved-on-requires-2 : tie.Need-moved-on-requires-2
+moved-on-requires-2 c κs = search needs
 
 returns : tie.Need-returns
 returns c =
-    let d = c .before .before .before .before in
-    handing-is _ (d .before .before .before .before .before .before .before .before .at-most .ensures) (d .before .before .before .before .before .before .before .at-most2 .ensures)
-    (d .decide .ensures) (c .before .before .with-decided .ensures) (c .moved-on .ensures)
+    let d = c .before .before .before .before .before in
+    let p = d .before .before .before .before .before .before .before .before .before .before in
+    handing-is _ (p .before .at-most .ensures) (p .at-most2 .ensures) (d .decide .ensures) (c .before .before .before .with-decided .ensures) (c .before .moved-on .ensures)
+    (c .moved-on2 .ensures)
 
 pub hand-out-spec : {M : Type 1} → statement M
 hand-out-spec =
@@ -42,4 +47,5 @@ hand-out-spec =
     with-decided-requires
     moved-on-requires
     cast-handed
+    moved-on-requires-2
     returns)

@@ -23,7 +23,7 @@ refused-requires c κs = search needs
 
 returns : tie.Need-returns
 returns c =
-    is-taken secondCircuit _ _ _ (c .before .before .before .before .admit .ensures) _ (ap frameYieldOf (c .before .before .admitted .given .1)) (c .take .ensures)
+    is-taken secondCircuit _ _ _ (c .before .before .before .before .admit .ensures) _ _ (ap frameYieldOf (c .before .before .admitted .given .1)) (c .take .ensures)
 
 returns-2 : tie.Need-returns-2
 returns-2 c =

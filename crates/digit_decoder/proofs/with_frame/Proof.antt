@@ -18,10 +18,13 @@ with-digits-requires c κs = search needs
 add-received : tie.Need-add-received
 add-received c = search needs
 
+with-frame-requires : tie.Need-with-frame-requires
+with-frame-requires c κs = search needs
+
 returns : tie.Need-returns
 returns c =
-    let a = c .before .before .before in
-    with-frame-is _ _ (a .before .before .stream-count .ensures) (a .at-most .ensures) (c .before .with-digits .ensures)
+    let a = c .before .before .before .before in
+    with-frame-is _ _ _ (a .before .before .stream-count .ensures) (a .at-most .ensures) (c .before .before .with-digits .ensures) (c .with-frame .ensures)
 
 pub with-frame-spec : {M : Type 1} → statement M
 with-frame-spec =
@@ -32,4 +35,5 @@ with-frame-spec =
     at-most-requires
     with-digits-requires
     add-received
+    with-frame-requires
     returns)

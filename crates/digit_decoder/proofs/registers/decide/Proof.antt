@@ -12,11 +12,11 @@ use Rattle.digit_decoder.proofs.registers.decide.Statement.{statement}
 use Rattle.digit_decoder.proofs.registers.decide.Tie as tie
 
 abbrev Inv-loop : tie.InvT-loop
-Inv-loop counts checks generators received decided k p all frame₀ i₀ frame i =
-    (i ≤ k) × (frame < 2 ^ i) × (frame ≡ fromDigits i (decideDigitBy counts checks generators received all p))
+Inv-loop counts checks generators received decided any marks k p all frame₀ i₀ frame i =
+    (i ≤ k) × (frame < 2 ^ i) × (frame ≡ fromDigits i (decideDigitBy counts checks generators received all any marks k p))
 
 abbrev μ-loop : tie.MeasureT-loop
-μ-loop counts checks generators received decided k p all frame₀ i₀ frame i = k - i
+μ-loop counts checks generators received decided any marks k p all frame₀ i₀ frame i = k - i
 
 sums-requires : tie.Need-sums-requires Inv-loop μ-loop
 sums-requires c κs = search needs
@@ -44,8 +44,8 @@ element-copy-out-at-most c = omega arith
 at-most-requires : tie.Need-at-most-requires Inv-loop μ-loop
 at-most-requires c κs = tt
 
-stream-votes-requires : tie.Need-stream-votes-requires Inv-loop μ-loop
-stream-votes-requires c κs = tt
+votes-requires : tie.Need-votes-requires Inv-loop μ-loop
+votes-requires c κs = tt
 
 digit-requires-2 : tie.Need-digit-requires-2 Inv-loop μ-loop
 digit-requires-2 c κs = tt
@@ -57,19 +57,19 @@ shift-up-requires c κs = tt
 digit-is : (c : tie.After-digit2 Inv-loop μ-loop) →
     let l = c .before .before .before .before .before .before .before .before .before .before .before .loop in
     let a = c .before .before .before .before .before .before .before .before .before .before .before .before .before .args in
-    c .digit2 .result ≡ decideDigitBy (a .counts .now) (a .checks .now) (a .generators .now) (a .received .now) (c .before .before .before .before .before .before .before .before .before .before .before .before .sums .result) (a .p) (l .i)
+    c .digit2 .result ≡ decideDigitBy (a .counts .now) (a .checks .now) (a .generators .now) (a .received .now) (c .before .before .before .before .before .before .before .before .before .before .before .before .sums .result) (a .any) (a .marks .now) (a .k) (a .p) (l .i)
 digit-is c =
     let l = c .before .before .before .before .before .before .before .before .before .before .before .loop in
     let a = c .before .before .before .before .before .before .before .before .before .before .before .before .before .args in
     let others = c .before .before .before .before .before in
     let own = others .before .before in
-    decided-is (a .counts .now) (a .checks .now) (a .generators .now) (a .received .now) (c .before .before .before .before .before .before .before .before .before .before .before .before .sums .result) (a .p) (l .i)
-    (own .digit .ensures ∙ ap (λ (w : ℕ). bit w 0) (own .before .word .ensures)) (others .others .ensures) (c .before .before .before .at-most .ensures) (c .before .stream-votes .ensures) (c .digit2 .ensures)
+    decided-is (a .counts .now) (a .checks .now) (a .generators .now) (a .received .now) (c .before .before .before .before .before .before .before .before .before .before .before .before .sums .result) (a .any) (a .marks .now) (a .k) (a .p) (l .i)
+    (own .digit .ensures ∙ ap (λ (w : ℕ). bit w 0) (own .before .word .ensures)) (others .others .ensures) (c .before .before .before .at-most .ensures) (c .before .votes .ensures .0) (c .before .votes .ensures .1) (c .digit2 .ensures)
 
 digit-lt : (c : tie.After-digit2 Inv-loop μ-loop) → c .digit2 .result < 2
 digit-lt c =
     let a = c .before .before .before .before .before .before .before .before .before .before .before .before .before .args in
-    rw (digit-is c) (decided-lt (a .counts .now) (a .checks .now) (a .generators .now) (a .received .now) (c .before .before .before .before .before .before .before .before .before .before .before .before .sums .result) (a .p) (c .before .before .before .before .before .before .before .before .before .before .before .loop .i))
+    rw (digit-is c) (decided-lt (a .counts .now) (a .checks .now) (a .generators .now) (a .received .now) (c .before .before .before .before .before .before .before .before .before .before .before .before .sums .result) (a .any) (a .marks .now) (a .k) (a .p) (c .before .before .before .before .before .before .before .before .before .before .before .loop .i))
 
 add-frame : tie.Need-add-frame Inv-loop μ-loop
 add-frame c =
@@ -96,7 +96,7 @@ returns : tie.Need-returns Inv-loop μ-loop
 returns c =
     let a = c .before .before .before .args in
     let l = c .before .loop in
-    decide-end (a .counts .now) (a .checks .now) (a .generators .now) (a .received .now) (a .decided .now) (a .k) (a .p) (l .inv .0) (c .loop-test .left) (c .before .before .sums .ensures) (l .inv .2)
+    decide-end (a .counts .now) (a .checks .now) (a .generators .now) (a .received .now) (a .decided .now) (a .any) (a .marks .now) (a .k) (a .p) (l .inv .0) (c .loop-test .left) (c .before .before .sums .ensures) (l .inv .2)
 
 pub decide-spec : {M : Type 1} → statement M
 decide-spec =
@@ -112,7 +112,7 @@ decide-spec =
     mul-at-most
     element-copy-out-at-most
     at-most-requires
-    stream-votes-requires
+    votes-requires
     digit-requires-2
     shift-up-requires
     add-frame
