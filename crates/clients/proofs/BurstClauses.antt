@@ -10,7 +10,8 @@ use Rattle.bits.specs.Sums.{sumBelow, upTo, back, grown}
 use Rattle.bits.specs.Digits.{bit, fromDigits, anyBeyond}
 use Rattle.code.specs.Bench.{P}
 use Rattle.code.specs.Code.{generator, digit, parityAt, withTail, sentDigit, sentFrame, sent}
-use Rattle.code.specs.Checks.{count, checkMask}
+use Rattle.code.specs.Checks.{count, checkMask, touchesInfo, touchesBy, besides}
+use Rattle.code.specs.Judging.{clashes}
 use Rattle.code.specs.declared.Card.{Card}
 use Rattle.card.specs.Bench.{cardP}
 use Rattle.card.specs.Outcome.{CardOutcome}
@@ -51,7 +52,7 @@ comes-out output room r after filled claim =
     (came .count, sym (take-all 3 after (omega arith)) ∙ came .frames)
 
 pub receives : (output : List ℕ) → length output ≡ 5 → receiveOf cardP (2 ∷ 2 ∷ 0 ∷ 0 ∷ []) output ≡ outcome (pos 3) (1 ∷ 0 ∷ 0 ∷ drop 3 output)
-unfolding sumBelow upTo back grown bit fromDigits anyBeyond generator digit parityAt count checkMask syndrome cleared checkAt voting voters votes decide decideFrame decided corrected decoded givenOf
+unfolding sumBelow upTo back grown bit fromDigits anyBeyond generator digit parityAt count checkMask touchesInfo touchesBy besides clashes syndrome cleared checkAt voting voters votes decide decideFrame decided corrected decoded givenOf
 receives output room =
     let input : List ℕ = 2 ∷ 2 ∷ 0 ∷ 0 ∷ [] in
     received-P input output ∙ receive-given P input output (omega arith) (omega arith) refl

@@ -1,13 +1,15 @@
 // What follows from the definitions alone: conditions at their edges, streams and bursts that just meet them and that just do not, and what holds of every
 // stream. Nothing runs: as a promise it is asked for by every check.
-ghost use Prim.Native.Nat.{ℕ};
+ghost use Prim.Native.Nat.{ℕ, _<_};
 ghost use mathlib.Core.List.{List, []};
 ghost use mathlib.Core.Path.{_≡_};
 ghost use Rattle.code.specs.Guarantees.{Guarantees};
 ghost use Rattle.code.specs.declared.Card.{Card};
-ghost use Rattle.majority.specs.Plain.{Correctable};
-ghost use Rattle.majority.specs.Edges.{Edges};
-ghost use Rattle.majority.specs.Plain.{decoded, figureBy};
+ghost use Rattle.majority.specs.AsSent as AsSent;
+ghost use Rattle.majority.specs.Edges.{Edges, ErasedEdges};
+ghost use Rattle.majority.specs.Erased.{ErasedRows};
+ghost use Rattle.majority.specs.Plain.{Correctable, NoneErased, Former};
+ghost use Rattle.majority.specs.Rule.{decoded, figureBy};
 ghost use Rattle.majority.specs.SecondCircuit.{decodedByDigits};
 ghost use Rattle.outcomes.specs.Admissions.{Admissions};
 ghost use Rattle.outcomes.specs.Claims.{SentAs};
@@ -15,7 +17,17 @@ ghost use Rattle.standard.specs.Edges.{TermEdges};
 
 // The third term's.
 pub fn conditions_are_met()
-    ensures { λ _. ⌜ Edges Correctable × Edges SentAs × Admissions ⌝ }
+    ensures { λ _. ⌜ Edges Correctable × ErasedEdges AsSent.Correctable × Edges SentAs × Admissions ⌝ }
+{}
+
+// What comes out where digits are erased, by both circuits.
+pub fn erased_digits_leave_the_vote()
+    ensures { λ _. ⌜ ErasedRows decoded × ErasedRows decodedByDigits ⌝ }
+{}
+
+// Where nothing is erased the rule and the condition are the former ones, for every accepted card.
+pub fn nothing_erased_is_the_former_rule()
+    ensures { λ _. ⌜ ((c : Card) → Guarantees c → (frames erased : List ℕ) (u i : ℕ) → i < c .k → NoneErased c erased u → Former c frames erased u i) ⌝ }
 {}
 
 // The rule's by which the standard cards were made.
@@ -25,10 +37,10 @@ pub fn terms_are_taken()
 
 // The link figure where no syndrome is held: before the first frame, and without memory.
 pub fn figure_is_zero()
-    ensures { λ _. ⌜ ((c : Card) → figureBy c [] ≡ 0) × ((c : Card) (frames : List ℕ) → c .m ≡ 0 → figureBy c frames ≡ 0) ⌝ }
+    ensures { λ _. ⌜ ((c : Card) → figureBy c [] [] ≡ 0) × ((c : Card) (frames erased : List ℕ) → c .m ≡ 0 → figureBy c frames erased ≡ 0) ⌝ }
 {}
 
-// Both circuits give equal frames, for every accepted card and every stream.
+// Both circuits give equal frames, for every accepted card and every stream, whichever digits are erased.
 pub fn circuits_agree()
-    ensures { λ _. ⌜ ((c : Card) → Guarantees c → (frames : List ℕ) → decodedByDigits c frames ≡ decoded c frames) ⌝ }
+    ensures { λ _. ⌜ ((c : Card) → Guarantees c → (frames erased : List ℕ) → decodedByDigits c frames erased ≡ decoded c frames erased) ⌝ }
 {}

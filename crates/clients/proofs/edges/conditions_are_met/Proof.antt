@@ -5,7 +5,7 @@ use Rattle.clients.proofs.edges.conditions_are_met.Statement.{statement
 use Rattle.clients.proofs.edges.conditions_are_met.Tie as tie
 
 returns : tie.Need-returns
-returns c = (stream.edges, burst.edges, admissions)
+returns c = (stream.edges, stream.erased-edges, burst.edges, admissions)
 
 pub conditions-are-met-spec : {M : Type 1} → statement M
 conditions-are-met-spec = tie.close (tie.spec returns)
