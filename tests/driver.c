@@ -354,7 +354,7 @@ static void receive_stream(struct random *r, const struct fields *fields, const 
     if (answer != t->count)
         fail("%ld frames are received as %d", t->whole, (int)answer);
     int as_sent = memcmp(expected, t->information, (size_t)t->count) == 0;
-    int must = reference_correctable(fields, t->sent, t->received, t->count);
+    int must = reference_correctable(fields, t->sent, t->received, NULL, t->count);
     count_stream(fields, memcmp(t->sent, t->received, (size_t)t->whole) != 0, as_sent, must);
     if (must && !as_sent)
         fail("a correctable stream did not come out as sent");
@@ -393,7 +393,7 @@ static void stream_at_limit(struct random *r, const struct fields *fields, const
         frame = &t.received[below(r, (int)t.whole)];
         digit = 1 << below(r, fields->n);
         *frame = (uint8_t)(*frame ^ digit);
-    } while (reference_correctable(fields, t.sent, t.received, t.count));
+    } while (reference_correctable(fields, t.sent, t.received, NULL, t.count));
     *frame = (uint8_t)(*frame ^ digit);
     receive_stream(r, fields, card, card_length, &t);
     *frame = (uint8_t)(*frame ^ digit);

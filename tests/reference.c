@@ -372,6 +372,37 @@ static int check_at(const struct fields *card, const struct frame *received, con
     return sum % 2;
 }
 
+/* Whether an erased digit other than its own is touched by a check on digit i at u. What a check touches is of time u
+ * or later, so of a time not yet decided: an erasure of an earlier time is not met here. */
+static int touches_erased(const struct fields *card, const struct touched *check, const struct frame *received, int i,
+                          long u)
+{
+    for (int b = 0; b <= card->m; b++)
+        for (int s = 1; s <= card->n; s++)
+            if (check->error[b][s] && received[u + b].erased[s] && !(b == 0 && s == i))
+                return 1;
+    return 0;
+}
+
+static int some_erased(const struct fields *card, const struct frame *received, long u)
+{
+    for (int b = 0; b <= card->m; b++)
+        for (int s = 1; s <= card->n; s++)
+            if (received[u + b].erased[s])
+                return 1;
+    return 0;
+}
+
+/* Whether check q on digit i at u votes (document 02, R-6). Most often nothing is erased, and what the check touches
+ * need not be worked out. */
+static int has_vote(const struct fields *card, const struct frame *received, int i, int q, long u)
+{
+    if (!some_erased(card, received, u))
+        return 1;
+    struct touched check = reference_touched(card, i, q);
+    return !touches_erased(card, &check, received, i, u);
+}
+
 /* Decides the errors of frame u, all streams from the errors of earlier frames only, and gives the frame handed out. */
 static struct frame decide_errors(const struct fields *card, const struct frame *received, struct frame *decided,
                                   long u)
@@ -380,10 +411,13 @@ static struct frame decide_errors(const struct fields *card, const struct frame 
     memset(&out, 0, sizeof out);
     memset(&decided[u], 0, sizeof decided[u]);
     for (int i = 1; i <= card->k; i++) {
-        int ones = 0;
+        int votes = 0, ones = 0;
         for (int q = 1; q <= card->J[i]; q++)
-            ones += check_at(card, received, decided, i, q, u);
-        decided[u].digit[i] = 2 * ones > card->J[i] ? 1 : 0;
+            if (has_vote(card, received, i, q, u)) {
+                votes++;
+                ones += check_at(card, received, decided, i, q, u);
+            }
+        decided[u].digit[i] = 2 * ones > votes ? 1 : 0;
         out.digit[i] = (received[u].digit[i] + decided[u].digit[i]) % 2;
     }
     return out;
@@ -466,12 +500,15 @@ static int vote(const struct fields *card, const struct frame *received, const s
     return sum % 2;
 }
 
-/* Digit i at u: the majority of its checks' votes, the received digit if there are as many for 0 as for 1. */
+/* Digit i at u: the majority of its checks' votes, the received digit if there are as many for 0 as for 1, none at all
+ * included. */
 static int digit_by_votes(const struct fields *card, const struct frame *received, const struct frame *decided, int i,
                           long u)
 {
     int for_1 = 0, for_0 = 0;
     for (int q = 1; q <= card->J[i]; q++) {
+        if (!has_vote(card, received, i, q, u))
+            continue;
         if (vote(card, received, decided, i, q, u))
             for_1++;
         else
@@ -536,6 +573,7 @@ static int frame_of_readings(const struct reading readings[8], int n, struct fra
     memset(frame, 0, sizeof *frame);
     for (int i = 1; i <= n; i++) {
         const struct reading *reading = &readings[i - 1];
+        frame->erased[i] = reading->erased;
         if (reading->erased)
             continue;
         if (!isfinite(reading->level))
@@ -634,30 +672,100 @@ int32_t reference_burst_receive_by_digits(const uint8_t *card, size_t card_lengt
     return receive_burst(TYPE_II, card, card_length, input, input_length, output, output_length);
 }
 
-/* ---- What comes out as sent ---- */
+/* ---- What comes out as sent (the condition is that of document 02's R-6) ---- */
 
-int reference_correctable(const struct fields *card, const uint8_t *sent, const uint8_t *received, long count)
+/* A received frame, some of its digits erased: they enter as 0, whatever the byte has in their place. */
+static struct frame frame_with_erased(uint8_t byte, uint8_t erased)
 {
-    for (int i = 1; i <= card->k; i++) {
-        int touched[MOST_MEMORY + 1][MOST_STREAMS + 1] = {{0}};
-        for (int q = 1; q <= card->J[i]; q++) {
-            struct touched by_check = reference_touched(card, i, q);
-            for (int b = 0; b <= card->m; b++)
-                for (int s = 1; s <= card->n; s++)
-                    if (by_check.error[b][s])
-                        touched[b][s] = 1; /* each counted once */
+    struct frame frame = frame_of_byte(byte), marks = frame_of_byte(erased);
+    for (int s = 1; s <= MOST_STREAMS; s++)
+        if (marks.digit[s]) {
+            frame.digit[s] = 0;
+            frame.erased[s] = 1;
         }
-        for (long u = 0; u < count; u++) {
-            int wrong = 0;
-            for (int b = 0; b <= card->m; b++)
-                for (int s = 1; s <= card->n; s++)
-                    if (touched[b][s] && digit_of(sent[u + b], s - 1) != digit_of(received[u + b], s - 1))
-                        wrong++;
-            if (wrong > card->J[i] / 2)
-                return 0;
+    return frame;
+}
+
+static struct frame *frames_with_erased(const uint8_t *bytes, const uint8_t *erased, long count)
+{
+    struct frame *frames = allocate((size_t)count, sizeof *frames);
+    for (long u = 0; u < count; u++)
+        frames[u] = frame_with_erased(bytes[u], erased == NULL ? 0 : erased[u]);
+    return frames;
+}
+
+/* The digits that came otherwise are any: they don't tell whether a check votes. */
+int reference_votes(const struct fields *card, const uint8_t *erased, int i, long u)
+{
+    struct frame *received = frames_with_erased(erased + u, erased + u, card->m + 1);
+    int votes = 0;
+    for (int q = 1; q <= card->J[i]; q++)
+        votes += has_vote(card, received, i, q, 0);
+    free(received);
+    return votes;
+}
+
+/* Adds the errors that one check touches to those that others do, so that each counts once. */
+static void add_touched(const struct fields *card, const struct touched *check, struct touched *all)
+{
+    for (int b = 0; b <= card->m; b++)
+        for (int s = 1; s <= card->n; s++)
+            if (check->error[b][s])
+                all->error[b][s] = 1;
+}
+
+static int wrong_among(const struct fields *card, const struct touched *touched, const struct frame *sent,
+                       const struct frame *received, long u)
+{
+    int wrong = 0;
+    for (int b = 0; b <= card->m; b++)
+        for (int s = 1; s <= card->n; s++)
+            if (touched->error[b][s] && sent[u + b].digit[s] != received[u + b].digit[s])
+                wrong++;
+    return wrong;
+}
+
+/* The condition for digit i at u: the wrong digits among those that its voting checks touch, its own included even if
+ * none votes, are at most half of the votes. */
+static int digit_correctable(const struct fields *card, const struct touched by_check[], const struct frame *sent,
+                             const struct frame *received, int i, long u)
+{
+    struct touched by_voting;
+    memset(&by_voting, 0, sizeof by_voting);
+    by_voting.error[0][i] = 1;
+    int votes = 0;
+    for (int q = 1; q <= card->J[i]; q++)
+        if (!touches_erased(card, &by_check[q], received, i, u)) {
+            votes++;
+            add_touched(card, &by_check[q], &by_voting);
         }
-    }
+    return wrong_among(card, &by_voting, sent, received, u) <= votes / 2;
+}
+
+/* The condition for digit i of every information frame. */
+static int digits_correctable(const struct fields *card, const struct frame *sent, const struct frame *received, int i,
+                              long count)
+{
+    struct touched by_check[MOST_CHECKS + 1];
+    for (int q = 1; q <= card->J[i]; q++)
+        by_check[q] = reference_touched(card, i, q);
+    for (long u = 0; u < count; u++)
+        if (!digit_correctable(card, by_check, sent, received, i, u))
+            return 0;
     return 1;
+}
+
+int reference_correctable(const struct fields *card, const uint8_t *sent, const uint8_t *received,
+                          const uint8_t *erased, long count)
+{
+    struct frame *as_sent = frames_with_erased(sent, NULL, count + card->m);
+    struct frame *as_received = frames_with_erased(received, erased, count + card->m);
+    int correctable = 1;
+    for (int i = 1; i <= card->k && correctable; i++)
+        correctable = digits_correctable(card, as_sent, as_received, i, count);
+    free(as_sent);
+    free(as_received);
+    return correctable;
 }
 
 /* ---- Sessions ("Refused because of the state", the link figure) ---- */

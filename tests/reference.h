@@ -9,6 +9,9 @@
  * code, from that document's paragraph. The order of 18 among a card's other refusals the author was told as well.
  * Standard cards (document 02, R-5) were added by an author who had not looked at the library's code, from that
  * document's paragraph and the report's section 3.5; that the call answers 0 for another J the author was told.
+ * That erased digits leave the vote (document 02, R-6) was added by an author who had not looked at the library's code,
+ * from that document's paragraph. What a check's own digit is, which digits it touches, that a time not yet decided is
+ * u or a later one, and that in the second circuit none voting is a tie, the author was told.
  *
  * It is made to be read, not to be fast. A digit is an int that is 0 or 1, a sum of digits is a
  * sum with one `% 2` at its end, and a stream keeps every frame from time 0 on: no masks, no
@@ -47,9 +50,10 @@ struct card_answer {
     size_t offset;
 };
 
-/* One digit for each stream, 1 to n; zero beyond. */
+/* One digit for each stream, 1 to n; zero beyond. Of a received frame also which digits were erased: they are 0. */
 struct frame {
     int digit[MOST_STREAMS + 1];
+    int erased[MOST_STREAMS + 1];
 };
 
 /* The errors that a check touches: information errors (b, i) at [b][i], parity errors (b, j) at [b][k + j]. */
@@ -93,9 +97,15 @@ int32_t reference_burst_receive(const uint8_t *card, size_t card_length, const u
 int32_t reference_burst_receive_by_digits(const uint8_t *card, size_t card_length, const uint8_t *input,
                                           size_t input_length, uint8_t *output, size_t output_length);
 
-/* The notice's third term: 1 if for each of the `count` information frames' digits the wrong digits among
- * those that its checks touch are at most half of J. sent and received are whole streams, count + m frame bytes. */
-int reference_correctable(const struct fields *card, const uint8_t *sent, const uint8_t *received, long count);
+/* The notice's third term, by document 02's R-6: 1 if for each of the `count` information frames' digits the wrong
+ * digits among those that its voting checks touch, its own included even if none votes, are at most half of the votes.
+ * sent and received are whole streams, count + m frame bytes. Of as many bytes of `erased`, NULL for none, bit s - 1
+ * stands if the digit of stream s is; what `received` has in its place is not looked at. */
+int reference_correctable(const struct fields *card, const uint8_t *sent, const uint8_t *received,
+                          const uint8_t *erased, long count);
+
+/* Of a stream with these digits erased, the number of checks on digit i at u that vote. */
+int reference_votes(const struct fields *card, const uint8_t *erased, int i, long u);
 
 /* The sessions. */
 

@@ -254,7 +254,7 @@ static void begin_with_stream(struct random *r, const struct fields *card, int a
     if (manner == BOTH && accepted) {
         shared.stream_calls = shared.calls;
         shared.frames = count;
-        shared.beyond = !reference_correctable(card, sent, received, count);
+        shared.beyond = !reference_correctable(card, sent, received, NULL, count);
     }
 }
 
