@@ -1,15 +1,19 @@
 /* Sets the program `trace`, and by it the sessions, against the reference: random cards with the offsets of their
- * refusals, cards that state a default among them, random mixtures of bytes and readings, wrong numbers, refused calls in
- * between, figures after every call, sending past the tail, every kind of f32. What the program writes is compared
- * byte by byte.
+ * refusals, cards that state a default among them, random mixtures of bytes and readings, single digits, whole frames and
+ * all digits erased, wrong numbers, refused calls in between, figures after every call, sending past the tail, every kind
+ * of f32. What the program writes is compared byte by byte.
  *
  * The two receivers are also set against each other, without the reference: of the same calls by session 0 and by
  * session 1 the program must have written the same lines. Most of the streams for this are beyond the correctable number.
+ *
+ * And what was sent is set against what comes out, without the reference's receivers: of a stream that is received whole
+ * and is within the correctable number the program must have written the information frames.
  *
  *     trace_driver PROGRAM                  everything, with the seed that is always the same
  *     trace_driver PROGRAM SEED             everything, with another seed
  *     trace_driver PROGRAM SEED TRACE       one trace again: a failure prints both numbers
  *     trace_driver --receivers PROGRAM ..   as above, but the receivers against each other only
+ *     trace_driver --sent PROGRAM ..        as above, but what was sent against what comes out only
  *
  * PROGRAM may be a command with arguments. Refusal 15 is out of reach here: it needs more frames than fit a trace. */
 #define _GNU_SOURCE
@@ -27,7 +31,7 @@
 #include <sys/wait.h>
 #include <unistd.h>
 
-enum { TRACES = 2500, MOST_BYTES = MOST_TRACE_BYTES + 64 };
+enum { TRACES = 2500, MOST_BYTES = MOST_TRACE_BYTES + 64, MOST_STREAM = 80 + MOST_MEMORY };
 
 /* To which receiving sessions the frames of a trace go. */
 enum manner { STAYING, SWITCHING, BOTH };
@@ -37,14 +41,20 @@ static uint8_t trace[MOST_BYTES];
 static size_t length;
 static enum manner manner;
 static int selected; /* the receiving session, by the last `s` */
+static long calls;   /* to receive a frame; where both sessions get it, one to each */
 
-/* What of it goes to both receivers: the calls to each, and among them the stream with which the trace begins. */
+/* The stream with which the trace begins, all its frames with the tail. Of an erased digit, bit s - 1 of `erased` for
+ * stream s, `received` is not looked at. */
 static struct {
-    long calls;
-    long stream_calls; /* up to the stream's last frame; 0 for no stream */
-    long frames;       /* that it hands out */
-    int beyond;        /* whether it is beyond the correctable number */
-} shared;
+    struct fields card;
+    long count; /* information frames */
+    uint8_t sent[MOST_STREAM], received[MOST_STREAM], erased[MOST_STREAM];
+    int whole;   /* whether it is received from time 0 to its last frame: by both sessions, or by the one named here */
+    int session;
+    long calls;  /* up to its last frame, refused ones included */
+    size_t end;  /* of these in the trace */
+    int beyond;  /* whether it is beyond the correctable number */
+} stream;
 
 static struct trace_counts counts;
 
@@ -60,6 +70,16 @@ static struct {
     long calls, frames;
     long streams, streams_beyond, stream_frames, stream_frames_beyond;
 } alike;
+
+/* The streams received whole: those that had to come out as sent; those with an erased digit, of which some had to as
+ * well and some were beyond it; decisions in which a check did not vote, and in which none did; and digits 1 that were
+ * erased and had to come out. */
+static struct {
+    long as_sent;
+    long erased_as_sent, erased_beyond;
+    long some_silent, all_silent;
+    long restored;
+} whole_streams;
 
 static void add_byte(int byte)
 {
@@ -115,26 +135,27 @@ static void put_byte(struct record *record, int byte)
     record->bytes[record->size++] = (uint8_t)byte;
 }
 
-static void put_reading(struct random *r, struct record *record, int digit, enum care care)
+static void put_reading(struct random *r, struct record *record, int digit, int marked, enum care care)
 {
-    int erased = (!digit || care == ANY) && one_in(r, 12);
+    int erased = marked || (care == ANY && one_in(r, 12));
     uint32_t level = level_for(r, digit, erased ? ANY : care);
     put_byte(record, erased);
     for (int b = 0; b < 4; b++)
         put_byte(record, (int)(level >> 8 * b & 255));
 }
 
-/* A frame as a byte or as readings, of which those after the n-th are like any. */
-static struct record record_of(struct random *r, const struct fields *card, int number, int frame, enum care care)
+/* A frame as a byte or, as it must be if a digit is erased, as readings, of which those after the n-th are like any. */
+static struct record record_of(struct random *r, const struct fields *card, int number, int frame, int erased,
+                               enum care care)
 {
     struct record record = {.size = 0};
-    int readings = one_in(r, 2);
+    int readings = erased || one_in(r, 2);
     put_byte(&record, readings ? 'r' : 'b');
     put_byte(&record, number);
     if (!readings)
         put_byte(&record, frame);
     for (int s = 0; readings && s < 8; s++)
-        put_reading(r, &record, frame >> s & 1, s < card->n ? care : ANY);
+        put_reading(r, &record, frame >> s & 1, erased >> s & 1, s < card->n ? care : ANY);
     return record;
 }
 
@@ -160,11 +181,11 @@ static void add_record(struct random *r, const struct record *record)
 static void add_call(struct random *r, const struct record *record)
 {
     int first = one_in(r, 4);
+    calls++;
     if (manner == BOTH) {
         select_session(first);
         add_record(r, record);
         select_session(1 - first);
-        shared.calls++;
     } else if (manner == SWITCHING && one_in(r, 3)) {
         select_session(below(r, 2));
     }
@@ -172,10 +193,10 @@ static void add_call(struct random *r, const struct record *record)
 }
 
 /* One frame to receive, most often under the card's number. Now and then its byte or one of its tags is any. */
-static void add_received(struct random *r, const struct fields *card, int frame)
+static void add_received(struct random *r, const struct fields *card, int frame, int erased)
 {
     int number = one_in(r, 12) ? below(r, 256) : card->number;
-    struct record record = record_of(r, card, number, frame, one_in(r, 6) ? ANY : MOSTLY);
+    struct record record = record_of(r, card, number, frame, erased, one_in(r, 6) ? ANY : MOSTLY);
     int readings = record.bytes[0] == 'r';
     if (!readings && one_in(r, 15))
         record.bytes[2] = (uint8_t)random_word(r);
@@ -185,10 +206,10 @@ static void add_received(struct random *r, const struct fields *card, int frame)
 }
 
 /* A call that is refused: by 14, or by 11 or 12. */
-static void add_refused(struct random *r, const struct fields *card, int frame)
+static void add_refused(struct random *r, const struct fields *card, int frame, int erased)
 {
     static const uint8_t infinite[5] = {0, 0, 0, 0x80, 0x7f};
-    struct record record = record_of(r, card, card->number, frame, SURELY);
+    struct record record = record_of(r, card, card->number, frame, erased, SURELY);
     int readings = record.bytes[0] == 'r';
     if (one_in(r, 2) || (!readings && card->n == MOST_STREAMS))
         record.bytes[1] = (uint8_t)(card->number + between(r, 1, 255));
@@ -199,68 +220,155 @@ static void add_refused(struct random *r, const struct fields *card, int frame)
     add_call(r, &record);
 }
 
-/* A frame that is taken as it is, so that a stream stays whole; now and then a refused call before it. */
-static void add_taken(struct random *r, const struct fields *card, int frame)
+/* A frame that is taken as it is, so that a stream stays whole; now and then a refused call before it, of which some
+ * have other digits erased. */
+static void add_taken(struct random *r, const struct fields *card, int frame, int erased)
 {
-    struct record record = record_of(r, card, card->number, frame, SURELY);
+    struct record record = record_of(r, card, card->number, frame, erased, SURELY);
     if (one_in(r, 8))
-        add_refused(r, card, frame);
+        add_refused(r, card, frame, one_in(r, 2) ? erased : below(r, 1 << card->n));
     add_call(r, &record);
+}
+
+/* ---- Wrong and erased digits ---- */
+
+static int random_digits(struct random *r, int streams, int in_thousand)
+{
+    int digits = 0;
+    for (int s = 0; s < streams; s++)
+        if (below(r, 1000) < in_thousand)
+            digits |= 1 << s;
+    return digits;
+}
+
+/* Which digits of consecutive frames are erased; single ones and whole frames at random. */
+struct erasing {
+    enum { NONE, SINGLE, FRAMES, EVERY_SECOND, ALL } way;
+    int in_thousand;
+};
+
+static struct erasing random_erasing(struct random *r)
+{
+    static const int rates[] = {5, 20, 50, 100, 200, 500};
+    struct erasing erasing = {.way = NONE, .in_thousand = rates[below(r, 6)]};
+    if (one_in(r, 3))
+        erasing.way = SINGLE;
+    else if (one_in(r, 3))
+        erasing.way = FRAMES;
+    else if (one_in(r, 4))
+        erasing.way = one_in(r, 2) ? EVERY_SECOND : ALL;
+    return erasing;
+}
+
+/* The erased digits of the frame in place u. */
+static int erased_at(struct random *r, const struct erasing *erasing, int u, int streams)
+{
+    int all = (1 << streams) - 1;
+    switch (erasing->way) {
+    case SINGLE:
+        return random_digits(r, streams, erasing->in_thousand);
+    case FRAMES:
+        return below(r, 1000) < erasing->in_thousand ? all : 0;
+    case EVERY_SECOND:
+        return all & (u % 2 ? 0x55 : 0xaa);
+    case ALL:
+        return all;
+    default:
+        return 0;
+    }
 }
 
 /* ---- Streams and mixtures ---- */
 
-enum { MOST_STREAM = 80 + MOST_MEMORY };
-
-static int with_wrong_digits(struct random *r, int frame, int streams, int in_thousand)
+/* The information is all zeros now and then, which comes out as sent also where no check votes. */
+static void send_stream(struct random *r, const struct fields *card)
 {
-    for (int s = 0; s < streams; s++)
-        if (below(r, 1000) < in_thousand)
-            frame ^= 1 << s;
-    return frame;
-}
-
-/* A sent stream and its receiving: information, then the tail, each frame received with some digits wrong. Where both
- * receivers get it, it is received whole, and what was sent and received is kept. */
-static void add_stream(struct random *r, const struct fields *card, int count, uint8_t *sent, uint8_t *received)
-{
-    static const int rates[] = {0, 10, 100, 200, 300, 400, 500, 1000};
     struct sending sender;
-    int rate = rates[below(r, 8)];
+    int values = one_in(r, 8) ? 1 : 1 << card->k;
     reference_open_sending(&sender, card);
-    for (int u = 0; u < count + card->m; u++) {
-        int information = below(r, 1 << card->k);
-        struct answer frame = u < count ? reference_send(&sender, (uint8_t)information) : reference_send_tail(&sender);
-        sent[u] = (uint8_t)frame.value;
-        received[u] = (uint8_t)with_wrong_digits(r, frame.value, card->n, rate);
-        if (u >= count)
-            add_byte('t');
-        else
-            add_byte('i'), add_byte(information);
-        if (manner == BOTH)
-            add_taken(r, card, received[u]);
-        else
-            add_received(r, card, received[u]);
+    for (int u = 0; u < stream.count + card->m; u++) {
+        int information = below(r, values);
+        struct answer frame =
+            u < stream.count ? reference_send(&sender, (uint8_t)information) : reference_send_tail(&sender);
+        stream.sent[u] = (uint8_t)frame.value;
     }
     reference_close_sending(&sender);
 }
 
-/* A stream as the first thing that the receivers get, so that it is one from time 0 on. A refused card has no streams. */
+/* Any digits wrong and erased. */
+static void damage_stream(struct random *r, const struct fields *card)
+{
+    static const int rates[] = {0, 10, 100, 200, 300, 400, 500, 1000};
+    struct erasing erasing = random_erasing(r);
+    int rate = erasing.way != NONE && one_in(r, 2) ? 0 : rates[below(r, 8)];
+    for (int u = 0; u < stream.count + card->m; u++) {
+        stream.received[u] = (uint8_t)(stream.sent[u] ^ random_digits(r, card->n, rate));
+        stream.erased[u] = (uint8_t)erased_at(r, &erasing, u, card->n);
+    }
+}
+
+static int is_correctable(const struct fields *card)
+{
+    return reference_correctable(card, stream.sent, stream.received, stream.erased, stream.count);
+}
+
+/* As many digits wrong and erased as the stream stands: random ones until a further one is too many; or also that one.
+ * (Erased zeros may never be too many.) */
+static void damage_at_limit(struct random *r, const struct fields *card)
+{
+    int frames = (int)stream.count + card->m, wrong_in_ten = below(r, 10), beyond = one_in(r, 2);
+    memcpy(stream.received, stream.sent, sizeof stream.sent);
+    memset(stream.erased, 0, sizeof stream.erased);
+    for (int digits = 0; digits < 60 && frames > 0; digits++) {
+        uint8_t *first = below(r, 10) < wrong_in_ten ? stream.received : stream.erased;
+        uint8_t *frame = first + below(r, frames), before = *frame;
+        *frame = (uint8_t)(*frame ^ 1 << below(r, card->n));
+        if (!is_correctable(card)) {
+            *frame = beyond ? *frame : before;
+            return;
+        }
+    }
+}
+
+/* The stream's records: each frame sent, and received. */
+static void add_stream(struct random *r, const struct fields *card)
+{
+    for (int u = 0; u < stream.count + card->m; u++) {
+        if (u >= stream.count)
+            add_byte('t');
+        else
+            add_byte('i'), add_byte(stream.sent[u] % (1 << card->k));
+        if (stream.whole)
+            add_taken(r, card, stream.received[u], stream.erased[u]);
+        else
+            add_received(r, card, stream.received[u], stream.erased[u]);
+    }
+}
+
+/* A stream as the first thing that the receivers get, so that it is one from time 0 on. A refused card has no streams:
+ * its records are not answered. */
 static void begin_with_stream(struct random *r, const struct fields *card, int accepted)
 {
-    uint8_t sent[MOST_STREAM], received[MOST_STREAM];
-    int count = below(r, MOST_STREAM - MOST_MEMORY);
-    add_stream(r, card, count, sent, received);
-    if (manner == BOTH && accepted) {
-        shared.stream_calls = shared.calls;
-        shared.frames = count;
-        shared.beyond = !reference_correctable(card, sent, received, NULL, count);
-    }
+    stream.card = *card;
+    stream.count = below(r, MOST_STREAM - MOST_MEMORY);
+    stream.whole = manner == BOTH || (manner == STAYING && one_in(r, 2));
+    stream.session = selected;
+    send_stream(r, card);
+    if (accepted && stream.whole && one_in(r, 3))
+        damage_at_limit(r, card);
+    else
+        damage_stream(r, card);
+    add_stream(r, card);
+    stream.whole = stream.whole && accepted;
+    stream.beyond = stream.whole && !is_correctable(card);
+    stream.calls = calls;
+    stream.end = length;
 }
 
 /* Any records in any order. */
 static void add_mixture(struct random *r, const struct fields *card, int records)
 {
+    struct erasing erasing = random_erasing(r);
     for (int record = 0; record < records; record++) {
         switch (below(r, 5)) {
         case 0:
@@ -272,7 +380,7 @@ static void add_mixture(struct random *r, const struct fields *card, int records
                 add_byte('t');
             break;
         default:
-            add_received(r, card, below(r, 1 << card->n));
+            add_received(r, card, below(r, 1 << card->n), erased_at(r, &erasing, record, card->n));
             break;
         }
     }
@@ -394,8 +502,9 @@ static void spoil_end(struct random *r)
 static void fill_up(struct random *r, const struct fields *card)
 {
     size_t wanted = (size_t)between(r, MOST_TRACE_BYTES - 1, MOST_TRACE_BYTES + 2);
-    while (length < wanted)
-        add_received(r, card, below(r, 1 << card->n));
+    struct erasing erasing = random_erasing(r);
+    for (int frame = 0; length < wanted; frame++)
+        add_received(r, card, below(r, 1 << card->n), erased_at(r, &erasing, frame, card->n));
     length = wanted;
 }
 
@@ -404,7 +513,8 @@ static void make_trace(struct random *r)
     struct fields card;
     length = 0;
     selected = 0;
-    memset(&shared, 0, sizeof shared);
+    calls = 0;
+    stream.whole = 0;
     int accepted = add_card(r, &card);
     if (card.m > MOST_MEMORY)
         card.m = MOST_MEMORY; /* a spoiled card, which is refused whatever its records are */
@@ -418,6 +528,7 @@ static void make_trace(struct random *r)
     if (one_in(r, 60))
         fill_up(r, &card);
     spoil_end(r);
+    stream.whole = stream.whole && stream.end <= length && length <= MOST_TRACE_BYTES;
 }
 
 /* ---- Running the program ---- */
@@ -594,15 +705,15 @@ static int is_frame(const struct place *place, const struct text *written)
 }
 
 /* The stream counts if it was received whole, up to its last frame. */
-static void count_stream(long calls)
+static void count_alike(long same_calls)
 {
-    if (shared.stream_calls == 0 || calls < shared.stream_calls)
+    if (!stream.whole || manner != BOTH || same_calls < stream.calls)
         return;
     alike.streams++;
-    alike.stream_frames += shared.frames;
-    if (shared.beyond) {
+    alike.stream_frames += stream.count;
+    if (stream.beyond) {
         alike.streams_beyond++;
-        alike.stream_frames_beyond += shared.frames;
+        alike.stream_frames_beyond += stream.count;
     }
 }
 
@@ -610,26 +721,91 @@ static void count_stream(long calls)
 static int as_each_other(const struct text *written)
 {
     struct place plain = at_card(written), second = plain;
-    long calls = 0;
+    long same_calls = 0;
     while (next_call(&plain, 0, written) && next_call(&second, 1, written) && same_call(&plain, &second)) {
-        calls++;
+        same_calls++;
         if (!same_line(&plain, &second, written)) {
-            printf("FAILED: the receivers differ, from their call %ld on\n", calls);
+            printf("FAILED: the receivers differ, from their call %ld on\n", same_calls);
             print_line("session 0", written, plain.line);
             print_line("session 1", written, second.line);
             return 0;
         }
         alike.frames += is_frame(&plain, written);
     }
-    alike.calls += calls;
-    count_stream(calls);
+    alike.calls += same_calls;
+    count_alike(same_calls);
     return 1;
+}
+
+/* ---- Comparing what was sent with what comes out ---- */
+
+static int is_information(const struct place *place, const struct text *written, long u)
+{
+    char line[MOST_LINE];
+    int size = snprintf(line, sizeof line, "frame %d", stream.sent[u] % (1 << stream.card.k));
+    return place->line_length == (size_t)size && memcmp(written->bytes + place->line, line, (size_t)size) == 0;
+}
+
+/* The frames that the session hands out in the stream's calls must be its information frames, in number too. */
+static int as_sent(int session, const struct text *written)
+{
+    struct place place = at_card(written);
+    long frames = 0;
+    int right = 1;
+    for (long call = 0; call < stream.calls && right; call++) {
+        right = next_call(&place, session, written);
+        if (right && is_frame(&place, written)) {
+            right = frames < stream.count && is_information(&place, written, frames);
+            frames++;
+        }
+    }
+    if (right && frames == stream.count)
+        return 1;
+    printf("FAILED: what session %d hands out and what was sent differ, by frame %ld of %ld\n", session, frames,
+           stream.count);
+    print_line("the program", written, place.line);
+    return 0;
+}
+
+/* The decisions on a digit of a stream that came out as it had to. */
+static void count_decision(int i, long u)
+{
+    int votes = reference_votes(&stream.card, stream.erased, i, u);
+    int own = 1 << (i - 1);
+    whole_streams.some_silent += votes < stream.card.J[i];
+    whole_streams.all_silent += votes == 0;
+    whole_streams.restored += !stream.beyond && (stream.erased[u] & own) && (stream.sent[u] & own);
+}
+
+static void count_whole(void)
+{
+    int erased = 0;
+    for (long u = 0; u < stream.count + stream.card.m; u++)
+        erased = erased || stream.erased[u];
+    whole_streams.as_sent += !stream.beyond;
+    whole_streams.erased_as_sent += erased && !stream.beyond;
+    whole_streams.erased_beyond += erased && stream.beyond;
+    for (long u = 0; u < stream.count && erased; u++)
+        for (int i = 1; i <= stream.card.k; i++)
+            count_decision(i, u);
+}
+
+/* The third term: a stream that is received whole, and not beyond the correctable number, comes out as sent. */
+static int as_it_must(const struct text *written)
+{
+    if (!stream.whole)
+        return 1;
+    int right = stream.beyond || as_sent(stream.session, written);
+    if (manner == BOTH)
+        right = right && (stream.beyond || as_sent(1 - stream.session, written));
+    count_whole();
+    return right;
 }
 
 /* ---- One trace ---- */
 
-/* Whether the receivers are set against each other only. */
-static int receivers_only;
+/* What the program is set against. */
+static enum { EVERYTHING, RECEIVERS, SENT } against;
 
 static void print_trace(uint64_t seed, long number)
 {
@@ -646,8 +822,12 @@ static int try_trace(const char *program, uint64_t seed, long number)
     make_trace(&r);
     reference_trace(trace, length, &right, &counts);
     struct text written = run(program);
-    int same = written.length > 0 && as_each_other(&written);
-    if (!receivers_only)
+    int same = written.length > 0;
+    if (against != SENT)
+        same = same && as_each_other(&written);
+    if (against != RECEIVERS)
+        same = same && as_it_must(&written);
+    if (against == EVERYTHING)
         same = as_the_reference(&written, &right) && same;
     if (!same)
         print_trace(seed, number);
@@ -684,6 +864,10 @@ static void print_counts(long traces)
     printf("%ld calls answered alike by sessions 0 and 1, %ld of them by a frame\n", alike.calls, alike.frames);
     printf("%ld streams received whole by both, %ld of them beyond the correctable number; frames: %ld, %ld beyond\n",
            alike.streams, alike.streams_beyond, alike.stream_frames, alike.stream_frames_beyond);
+    printf("%ld streams received whole, by both or by one, had to come out as sent\n", whole_streams.as_sent);
+    printf("with erased digits: %ld of them, with %ld erased digits 1, and %ld beyond the correctable number; decisions in "
+           "which a check did not vote: %ld, in which none did: %ld\n",
+           whole_streams.erased_as_sent, whole_streams.restored, whole_streams.erased_beyond, whole_streams.some_silent, whole_streams.all_silent);
 }
 
 static int all_refused(const struct answer_counts *answers, const int numbers[3])
@@ -713,27 +897,41 @@ static int stated_enough(void)
     return enough;
 }
 
+static int most_beyond(void)
+{
+    return alike.streams >= 300 && 2 * alike.streams_beyond > alike.streams &&
+           2 * alike.stream_frames_beyond > alike.stream_frames;
+}
+
+static int erased_enough(void)
+{
+    return whole_streams.erased_as_sent >= 100 && whole_streams.erased_beyond >= 100 && whole_streams.some_silent >= 1000 &&
+           whole_streams.all_silent >= 1000 && whole_streams.restored >= 100;
+}
+
 static int tried_enough(void)
 {
     int every = every_answer(), stated = stated_enough();
-    int most_beyond = alike.streams >= 300 && 2 * alike.streams_beyond > alike.streams &&
-                      2 * alike.stream_frames_beyond > alike.stream_frames;
+    int alike_enough = against == SENT || most_beyond(), erased = against == RECEIVERS || erased_enough();
     if (!every)
         printf("FAILED: some answer or end never occurred\n");
     if (!stated)
         printf("FAILED: too few cards that state a default, or too few in some way\n");
-    if (!most_beyond)
+    if (!alike_enough)
         printf("FAILED: too few streams for both receivers, or not most of them beyond the correctable number\n");
-    return every && stated && most_beyond;
+    if (!erased)
+        printf("FAILED: too few streams with erased digits, or too few of a kind\n");
+    return every && stated && alike_enough && erased;
 }
 
 int main(int argc, char **argv)
 {
-    receivers_only = argc > 1 && strcmp(argv[1], "--receivers") == 0;
-    argc -= receivers_only;
-    argv += receivers_only;
+    if (argc > 1)
+        against = strcmp(argv[1], "--receivers") == 0 ? RECEIVERS : strcmp(argv[1], "--sent") == 0 ? SENT : EVERYTHING;
+    argc -= against != EVERYTHING;
+    argv += against != EVERYTHING;
     if (argc < 2) {
-        fprintf(stderr, "usage: trace_driver [--receivers] PROGRAM [SEED [TRACE]]\n");
+        fprintf(stderr, "usage: trace_driver [--receivers | --sent] PROGRAM [SEED [TRACE]]\n");
         return 2;
     }
     uint64_t seed = argc > 2 ? strtoull(argv[2], NULL, 10) : 1;
