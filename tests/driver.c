@@ -2,7 +2,8 @@
  * written out, cards that state a default, standard cards, random bursts with few, many and only wrong digits, every
  * output size around the count. Each call's answer, every output byte, the guard bytes around each lent buffer, and the
  * card and input themselves are compared. What the library receives by the first circuit is also set against the
- * reference's second one, on streams most of which are beyond the correctable number.
+ * reference's second one, on streams most of which are beyond the correctable number. Bursts carry no erased digits: on
+ * those the reference's sessions alone are set against each other, and what comes out of them against what was sent.
  *
  *     driver               everything, with the seed that is always the same
  *     driver SEED          everything, with another seed
@@ -13,6 +14,7 @@
 #include "burst.h"
 
 #include "cards.h"
+#include "erasing.h"
 #include "lent.h"
 #include "random.h"
 #include "reference.h"
@@ -31,6 +33,7 @@ enum {
     DAMAGED_CARDS = 24,     /* rounds in which every byte of a card is changed, and it is cut and extended everywhere */
     STANDARD_CARDS = 41,    /* rounds with a J from 0 on: a standard card, or none */
     STREAMS_AT_LIMIT = 40,  /* for each standard card, streams with as many wrong digits as they stand */
+    ERASED_STREAMS = 600,   /* rounds with streams that have erased digits, for the reference's sessions */
     LONGEST_STREAM = 120,   /* information frames of a stream */
     MOST_ROOM = MOST_FRAMES + 64
 };
@@ -82,6 +85,12 @@ static struct {
     struct calls calls;
     long cards, none, streams_at_limit;
 } standard;
+
+/* Streams for the reference's sessions: those without erased digits, and with them; of the latter, those that had to
+ * come out as sent, those that stood no further digit wrong or erased, and those that were lost with that one. */
+static struct {
+    long none, streams, correctable, at_limit, lost_beyond;
+} erased;
 
 static struct arena card_arena, input_arena, output_arena;
 static uint8_t *expected; /* the output as the reference leaves it */
@@ -325,14 +334,16 @@ static void count_stream(const struct fields *fields, int wrong, int as_sent, in
     counts.correctable += must && wrong;
 }
 
-/* A stream: its information frames, and the `whole` frames sent for them, tail included, and received. */
+/* A stream: its information frames, and the `whole` frames sent for them, tail included, and received. Which digits are
+ * erased, as for the reference's reference_correctable, is for sessions. */
 struct transmission {
     long count, whole;
     uint8_t information[LONGEST_STREAM];
     uint8_t sent[LONGEST_STREAM + MOST_MEMORY], received[LONGEST_STREAM + MOST_MEMORY];
+    uint8_t erased[LONGEST_STREAM + MOST_MEMORY];
 };
 
-/* Random information sent; no digit is wrong as yet. */
+/* Random information sent; no digit is wrong or erased as yet. */
 static void send_stream(struct random *r, const struct fields *fields, const uint8_t *card, size_t card_length,
                         long count, struct transmission *t)
 {
@@ -343,6 +354,7 @@ static void send_stream(struct random *r, const struct fields *fields, const uin
         fail("%ld information frames are sent as %d", count, (int)answer);
     memcpy(t->sent, expected, (size_t)t->whole);
     memcpy(t->received, expected, (size_t)t->whole);
+    memset(t->erased, 0, sizeof t->erased);
 }
 
 /* The stream received, wrong digits and all: what comes out, and whether it must come out as sent. */
@@ -398,6 +410,141 @@ static void stream_at_limit(struct random *r, const struct fields *fields, const
     receive_stream(r, fields, card, card_length, &t);
     *frame = (uint8_t)(*frame ^ digit);
     receive_stream(r, fields, card, card_length, &t);
+}
+
+/* ---- Streams with erased digits, by the reference's sessions ---- */
+
+static void fail_erased(const struct transmission *t, const char *what)
+{
+    now.function = "the reference's sessions";
+    now.input = t->received, now.input_length = (size_t)t->whole;
+    print_hexadecimal("sent", t->sent, (size_t)t->whole);
+    print_hexadecimal("erased", t->erased, (size_t)t->whole);
+    fail("%s", what);
+}
+
+/* A frame as readings. An erased one has the level of the digit all the same, which must not be looked at. */
+static void readings_of(int frame, int marks, struct reading readings[8])
+{
+    for (int s = 0; s < 8; s++) {
+        readings[s].erased = marks >> s & 1;
+        readings[s].level = frame >> s & 1 ? 1 : -1;
+    }
+}
+
+/* The stream received by a session of each circuit, which must answer alike: waiting, then the frames handed out. */
+static void receive_by_both(const struct fields *fields, const struct transmission *t, uint8_t *frames)
+{
+    struct receiving first, second;
+    reference_open_receiving(&first, TYPE_I, fields);
+    reference_open_receiving(&second, TYPE_II, fields);
+    for (long u = 0; u < t->whole; u++) {
+        struct reading readings[8];
+        readings_of(t->received[u], t->erased[u], readings);
+        struct answer one = reference_receive_readings(&first, fields->number, readings);
+        struct answer other = reference_receive_readings(&second, fields->number, readings);
+        if (one.kind != other.kind || one.value != other.value)
+            fail_erased(t, "the two circuits answer otherwise");
+        if (one.kind != (u < fields->m ? WAITING : FRAME))
+            fail_erased(t, "a session doesn't answer as it has to");
+        if (one.kind == FRAME)
+            frames[u - fields->m] = (uint8_t)one.value;
+    }
+    reference_close_receiving(&first);
+    reference_close_receiving(&second);
+}
+
+static int correctable(const struct fields *fields, const struct transmission *t)
+{
+    return reference_correctable(fields, t->sent, t->received, t->erased, t->count);
+}
+
+/* Whether the stream comes out as sent, as it must where it is correctable. */
+static int comes_out(const struct fields *fields, const struct transmission *t)
+{
+    uint8_t frames[LONGEST_STREAM];
+    receive_by_both(fields, t, frames);
+    int as_sent = memcmp(frames, t->information, (size_t)t->count) == 0, must = correctable(fields, t);
+    if (must && !as_sent)
+        fail_erased(t, "a correctable stream did not come out as sent");
+    erased.streams++;
+    erased.correctable += must;
+    return as_sent;
+}
+
+/* The notice's condition for digit i at u, as it was before R-6. A card's checks are orthogonal, so that all they touch
+ * is counted once if the own digit is. */
+static int at_most_half_of_J(const struct fields *fields, const struct transmission *t, int i, long u)
+{
+    int wrong = (t->sent[u] ^ t->received[u]) >> (i - 1) & 1;
+    for (int q = 1; q <= fields->J[i]; q++) {
+        struct touched touched = reference_touched(fields, i, q);
+        for (int b = 0; b <= fields->m; b++)
+            for (int s = 1; s <= fields->n; s++)
+                if (touched.error[b][s] && (b != 0 || s != i))
+                    wrong += (t->sent[u + b] ^ t->received[u + b]) >> (s - 1) & 1;
+    }
+    return 2 * wrong <= fields->J[i];
+}
+
+/* With nothing erased the condition is the notice's own, and a session hands out what a burst has. */
+static void stream_without_erased(struct random *r, const struct fields *fields, const uint8_t *card, size_t length)
+{
+    static const int rates[] = {0, 2, 10, 30, 100, 300, 1000};
+    struct transmission t;
+    uint8_t frames[LONGEST_STREAM], of_burst[LONGEST_STREAM];
+    int as_before = 1;
+    send_stream(r, fields, card, length, length_around(r, fields->m), &t);
+    if (one_in(r, 2))
+        damage_touched(r, fields, t.received, t.count);
+    else
+        damage(r, fields->n, rates[below(r, 7)], t.received, t.whole);
+    for (long u = 0; u < t.count; u++)
+        for (int i = 1; i <= fields->k; i++)
+            as_before = as_before && at_most_half_of_J(fields, &t, i, u);
+    if (correctable(fields, &t) != as_before ||
+        reference_correctable(fields, t.sent, t.received, NULL, t.count) != as_before)
+        fail_erased(&t, "with nothing erased the condition is another");
+    receive_by_both(fields, &t, frames);
+    int32_t count = reference_burst_receive(card, length, t.received, (size_t)t.whole, of_burst, sizeof of_burst);
+    if (count != t.count || memcmp(frames, of_burst, (size_t)t.count) != 0)
+        fail_erased(&t, "with nothing erased a burst has other frames");
+    erased.none++;
+}
+
+/* Any digits wrong and erased. */
+static void stream_with_erased(struct random *r, const struct fields *fields, const uint8_t *card, size_t length)
+{
+    static const int rates[] = {0, 0, 0, 5, 20, 100, 500, 1000};
+    struct transmission t;
+    struct erasing erasing = random_erasing(r);
+    send_stream(r, fields, card, length, length_around(r, fields->m), &t);
+    damage(r, fields->n, rates[below(r, 8)], t.received, t.whole);
+    for (long u = 0; u < t.whole; u++)
+        t.erased[u] = (uint8_t)erased_at(r, &erasing, u, fields->n);
+    comes_out(fields, &t);
+}
+
+/* As many digits wrong and erased as the stream stands, random ones until a further one is too many; then with that
+ * one. Erased zeros may never be too many. */
+static void erased_stream_at_limit(struct random *r, const struct fields *fields, const uint8_t *card, size_t length)
+{
+    struct transmission t;
+    int wrong_in_ten = below(r, 11);
+    send_stream(r, fields, card, length, between(r, 1, LONGEST_STREAM / 2), &t);
+    for (int digits = 0; digits < 200; digits++) {
+        uint8_t *frame = (below(r, 10) < wrong_in_ten ? t.received : t.erased) + below(r, (int)t.whole);
+        int digit = 1 << below(r, fields->n);
+        *frame = (uint8_t)(*frame ^ digit);
+        if (correctable(fields, &t))
+            continue;
+        *frame = (uint8_t)(*frame ^ digit);
+        comes_out(fields, &t);
+        *frame = (uint8_t)(*frame ^ digit);
+        erased.lost_beyond += !comes_out(fields, &t);
+        erased.at_limit++;
+        return;
+    }
 }
 
 /* ---- Cards written out ---- */
@@ -709,6 +856,21 @@ static void every_length_round(struct random *r, int turn)
     }
 }
 
+/* Streams under a random card, or under a standard one. */
+static void erased_round(struct random *r, int turn)
+{
+    struct fields fields;
+    uint8_t card[MOST_CARD_BYTES];
+    if (turn % 4 == 0)
+        standard_fields(between(r, 2, 7), &fields);
+    else
+        random_card(r, &fields);
+    size_t length = card_bytes(&fields, 0, 0, card);
+    stream_without_erased(r, &fields, card, length);
+    stream_with_erased(r, &fields, card, length);
+    erased_stream_at_limit(r, &fields, card, length);
+}
+
 /* A card of the most bytes that one within the limits can have: k 4, n 8, every mask standing, J 16. And faults in it,
  * most of them far behind its first byte. */
 static void longest_card_round(struct random *r)
@@ -923,6 +1085,9 @@ static int run_round(long round)
     if (turn == 1)
         return longest_card_round(&r), 1;
     turn -= 2;
+    if (turn < ERASED_STREAMS)
+        return erased_round(&r, (int)turn), 1;
+    turn -= ERASED_STREAMS;
     uint32_t checks;
     if (checks_of_turn(turn, &checks))
         return standard_card_round(&r, checks), 1;
@@ -978,6 +1143,9 @@ static void print_counts(void)
            counts.streams, counts.clean, counts.corrected, counts.beyond, counts.correctable);
     printf("%ld of the streams received by the second circuit too, %ld of them beyond the correctable number\n",
            counts.by_second, counts.by_second_beyond);
+    printf("%ld streams by the reference's sessions without erased digits; %ld with, of which %ld had to come out as "
+           "sent; %ld stood no further digit wrong or erased, and %ld of these were lost with it\n",
+           erased.none, erased.streams, erased.correctable, erased.at_limit, erased.lost_beyond);
 }
 
 /* Whether a burst can meet the refusal, and whether card_write can. The others are for sessions. */
@@ -1013,6 +1181,13 @@ static int second_tried_enough(void)
     return counts.by_second >= 3000 && 2 * counts.by_second_beyond > counts.by_second;
 }
 
+static int erased_enough(void)
+{
+    return erased.none >= ERASED_STREAMS && erased.correctable >= ERASED_STREAMS &&
+           erased.streams - erased.correctable >= ERASED_STREAMS && erased.at_limit >= ERASED_STREAMS / 2 &&
+           erased.lost_beyond > 0;
+}
+
 /* A run that did not try everything is no proof of agreement. */
 static int tried_enough(void)
 {
@@ -1033,6 +1208,10 @@ static int tried_enough(void)
     }
     if (!second_tried_enough()) {
         printf("FAILED: too few streams for the second circuit, or not most of them beyond the correctable number\n");
+        enough = 0;
+    }
+    if (!erased_enough()) {
+        printf("FAILED: too few streams with erased digits, or too few of a kind\n");
         enough = 0;
     }
     if (standard.cards != 6 || standard.none < STANDARD_CARDS || standard.calls.refused[13] == 0) {

@@ -1,23 +1,24 @@
 /* Sets the program `trace`, and by it the sessions, against the reference: random cards with the offsets of their
- * refusals, cards that state a default among them, random mixtures of bytes and readings, single digits, whole frames and
- * all digits erased, wrong numbers, refused calls in between, figures after every call, sending past the tail, every kind
- * of f32. What the program writes is compared byte by byte.
+ * refusals, cards that state a default among them, random mixtures of bytes and readings, single digits, whole frames
+ * and all digits erased, wrong numbers, refused calls in between, figures after every call, sending past the tail,
+ * every kind of f32. What the program writes is compared byte by byte.
  *
  * The two receivers are also set against each other, without the reference: of the same calls by session 0 and by
  * session 1 the program must have written the same lines. Most of the streams for this are beyond the correctable number.
  *
- * And what was sent is set against what comes out, without the reference's receivers: of a stream that is received whole
- * and is within the correctable number the program must have written the information frames.
+ * And what comes out is set against what was sent, without the reference's receivers: of a stream that is received
+ * whole and isn't beyond the correctable number the program must have written the information frames.
  *
  *     trace_driver PROGRAM                  everything, with the seed that is always the same
  *     trace_driver PROGRAM SEED             everything, with another seed
  *     trace_driver PROGRAM SEED TRACE       one trace again: a failure prints both numbers
  *     trace_driver --receivers PROGRAM ..   as above, but the receivers against each other only
- *     trace_driver --sent PROGRAM ..        as above, but what was sent against what comes out only
+ *     trace_driver --sent PROGRAM ..        as above, but what comes out against what was sent only
  *
  * PROGRAM may be a command with arguments. Refusal 15 is out of reach here: it needs more frames than fit a trace. */
 #define _GNU_SOURCE
 #include "cards.h"
+#include "erasing.h"
 #include "random.h"
 #include "reference.h"
 #include "trace.h"
@@ -230,54 +231,6 @@ static void add_taken(struct random *r, const struct fields *card, int frame, in
     add_call(r, &record);
 }
 
-/* ---- Wrong and erased digits ---- */
-
-static int random_digits(struct random *r, int streams, int in_thousand)
-{
-    int digits = 0;
-    for (int s = 0; s < streams; s++)
-        if (below(r, 1000) < in_thousand)
-            digits |= 1 << s;
-    return digits;
-}
-
-/* Which digits of consecutive frames are erased; single ones and whole frames at random. */
-struct erasing {
-    enum { NONE, SINGLE, FRAMES, EVERY_SECOND, ALL } way;
-    int in_thousand;
-};
-
-static struct erasing random_erasing(struct random *r)
-{
-    static const int rates[] = {5, 20, 50, 100, 200, 500};
-    struct erasing erasing = {.way = NONE, .in_thousand = rates[below(r, 6)]};
-    if (one_in(r, 3))
-        erasing.way = SINGLE;
-    else if (one_in(r, 3))
-        erasing.way = FRAMES;
-    else if (one_in(r, 4))
-        erasing.way = one_in(r, 2) ? EVERY_SECOND : ALL;
-    return erasing;
-}
-
-/* The erased digits of the frame in place u. */
-static int erased_at(struct random *r, const struct erasing *erasing, int u, int streams)
-{
-    int all = (1 << streams) - 1;
-    switch (erasing->way) {
-    case SINGLE:
-        return random_digits(r, streams, erasing->in_thousand);
-    case FRAMES:
-        return below(r, 1000) < erasing->in_thousand ? all : 0;
-    case EVERY_SECOND:
-        return all & (u % 2 ? 0x55 : 0xaa);
-    case ALL:
-        return all;
-    default:
-        return 0;
-    }
-}
-
 /* ---- Streams and mixtures ---- */
 
 /* The information is all zeros now and then, which comes out as sent also where no check votes. */
@@ -300,7 +253,7 @@ static void damage_stream(struct random *r, const struct fields *card)
 {
     static const int rates[] = {0, 10, 100, 200, 300, 400, 500, 1000};
     struct erasing erasing = random_erasing(r);
-    int rate = erasing.way != NONE && one_in(r, 2) ? 0 : rates[below(r, 8)];
+    int rate = erasing.way != NONE_ERASED && one_in(r, 2) ? 0 : rates[below(r, 8)];
     for (int u = 0; u < stream.count + card->m; u++) {
         stream.received[u] = (uint8_t)(stream.sent[u] ^ random_digits(r, card->n, rate));
         stream.erased[u] = (uint8_t)erased_at(r, &erasing, u, card->n);
@@ -737,7 +690,7 @@ static int as_each_other(const struct text *written)
     return 1;
 }
 
-/* ---- Comparing what was sent with what comes out ---- */
+/* ---- Comparing what comes out with what was sent ---- */
 
 static int is_information(const struct place *place, const struct text *written, long u)
 {
@@ -864,10 +817,11 @@ static void print_counts(long traces)
     printf("%ld calls answered alike by sessions 0 and 1, %ld of them by a frame\n", alike.calls, alike.frames);
     printf("%ld streams received whole by both, %ld of them beyond the correctable number; frames: %ld, %ld beyond\n",
            alike.streams, alike.streams_beyond, alike.stream_frames, alike.stream_frames_beyond);
-    printf("%ld streams received whole, by both or by one, had to come out as sent\n", whole_streams.as_sent);
-    printf("with erased digits: %ld of them, with %ld erased digits 1, and %ld beyond the correctable number; decisions in "
-           "which a check did not vote: %ld, in which none did: %ld\n",
-           whole_streams.erased_as_sent, whole_streams.restored, whole_streams.erased_beyond, whole_streams.some_silent, whole_streams.all_silent);
+    printf("%ld streams received whole by both or by one had to come out as sent\n", whole_streams.as_sent);
+    printf("with erased digits: %ld of them, and %ld beyond the correctable number; decisions in which a check did not "
+           "vote: %ld, in which none did: %ld; erased digits 1 that had to come out: %ld\n",
+           whole_streams.erased_as_sent, whole_streams.erased_beyond, whole_streams.some_silent,
+           whole_streams.all_silent, whole_streams.restored);
 }
 
 static int all_refused(const struct answer_counts *answers, const int numbers[3])
@@ -905,8 +859,8 @@ static int most_beyond(void)
 
 static int erased_enough(void)
 {
-    return whole_streams.erased_as_sent >= 100 && whole_streams.erased_beyond >= 100 && whole_streams.some_silent >= 1000 &&
-           whole_streams.all_silent >= 1000 && whole_streams.restored >= 100;
+    return whole_streams.erased_as_sent >= 50 && whole_streams.erased_beyond >= 50 &&
+           whole_streams.some_silent >= 1000 && whole_streams.all_silent >= 1000 && whole_streams.restored >= 50;
 }
 
 static int tried_enough(void)
