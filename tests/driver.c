@@ -414,9 +414,11 @@ static void stream_at_limit(struct random *r, const struct fields *fields, const
 
 /* ---- Streams with erased digits, by the reference's sessions ---- */
 
-static void fail_erased(const struct transmission *t, const char *what)
+static void fail_erased(const struct fields *fields, const struct transmission *t, const char *what)
 {
+    static uint8_t card[MOST_CARD_BYTES];
     now.function = "the reference's sessions";
+    now.card = card, now.card_length = card_bytes(fields, 0, 0, card);
     now.input = t->received, now.input_length = (size_t)t->whole;
     print_hexadecimal("sent", t->sent, (size_t)t->whole);
     print_hexadecimal("erased", t->erased, (size_t)t->whole);
@@ -444,9 +446,9 @@ static void receive_by_both(const struct fields *fields, const struct transmissi
         struct answer one = reference_receive_readings(&first, fields->number, readings);
         struct answer other = reference_receive_readings(&second, fields->number, readings);
         if (one.kind != other.kind || one.value != other.value)
-            fail_erased(t, "the two circuits answer otherwise");
+            fail_erased(fields, t, "the two circuits answer otherwise");
         if (one.kind != (u < fields->m ? WAITING : FRAME))
-            fail_erased(t, "a session doesn't answer as it has to");
+            fail_erased(fields, t, "a session doesn't answer as it has to");
         if (one.kind == FRAME)
             frames[u - fields->m] = (uint8_t)one.value;
     }
@@ -466,7 +468,7 @@ static int comes_out(const struct fields *fields, const struct transmission *t)
     receive_by_both(fields, t, frames);
     int as_sent = memcmp(frames, t->information, (size_t)t->count) == 0, must = correctable(fields, t);
     if (must && !as_sent)
-        fail_erased(t, "a correctable stream did not come out as sent");
+        fail_erased(fields, t, "a correctable stream did not come out as sent");
     erased.streams++;
     erased.correctable += must;
     return as_sent;
@@ -504,11 +506,11 @@ static void stream_without_erased(struct random *r, const struct fields *fields,
             as_before = as_before && at_most_half_of_J(fields, &t, i, u);
     if (correctable(fields, &t) != as_before ||
         reference_correctable(fields, t.sent, t.received, NULL, t.count) != as_before)
-        fail_erased(&t, "with nothing erased the condition is another");
+        fail_erased(fields, &t, "with nothing erased the condition is another");
     receive_by_both(fields, &t, frames);
     int32_t count = reference_burst_receive(card, length, t.received, (size_t)t.whole, of_burst, sizeof of_burst);
     if (count != t.count || memcmp(frames, of_burst, (size_t)t.count) != 0)
-        fail_erased(&t, "with nothing erased a burst has other frames");
+        fail_erased(fields, &t, "with nothing erased a burst has other frames");
     erased.none++;
 }
 
@@ -1023,6 +1025,56 @@ static void bench_written(struct random *r)
     }
 }
 
+/* A stream for sessions, with some digits erased: what comes out of it, and whether it has to be what was sent. */
+struct erased_case {
+    char card;
+    int whole; /* frames, tail included */
+    uint8_t sent[6], received[6], erased[6], out[3];
+    int must;
+};
+
+static void expect_erased(const struct erased_case *expectation)
+{
+    struct fields fields;
+    struct transmission t;
+    uint8_t frames[LONGEST_STREAM];
+    bench_card(expectation->card, &fields);
+    t.whole = expectation->whole, t.count = t.whole - fields.m;
+    memcpy(t.sent, expectation->sent, sizeof expectation->sent);
+    memcpy(t.received, expectation->received, sizeof expectation->received);
+    memcpy(t.erased, expectation->erased, sizeof expectation->erased);
+    receive_by_both(&fields, &t, frames);
+    if (memcmp(frames, expectation->out, (size_t)t.count) != 0 || correctable(&fields, &t) != expectation->must)
+        fail_erased(&fields, &t, "the bench's case with erased digits gives other frames, or the condition is another");
+}
+
+/* Document 02 states no cases for R-6: these follow from its paragraph by hand. */
+static void bench_erased(void)
+{
+    static const struct erased_case cases[] = {
+        /* The own digit, a 1: both checks vote, and put it right. */
+        {'P', 4, {3, 2, 3, 2}, {3, 2, 3, 2}, {1, 0, 0, 0}, {1, 0, 1}, 1},
+        /* A parity digit, the first or the next: one check is left. */
+        {'P', 4, {3, 2, 3, 2}, {3, 2, 3, 2}, {2, 0, 0, 0}, {1, 0, 1}, 1},
+        {'P', 4, {3, 2, 3, 2}, {2, 2, 3, 2}, {0, 2, 0, 0}, {1, 0, 1}, 0},
+        /* The own digit and its frame's parity digit: the check that is left is the majority, but it stands no error. */
+        {'P', 4, {3, 2, 3, 2}, {3, 2, 3, 2}, {3, 0, 0, 0}, {1, 0, 1}, 0},
+        /* And the next parity digit: no check is left, and the 0 comes out that the digit was taken as. */
+        {'P', 4, {3, 2, 3, 2}, {3, 2, 3, 2}, {3, 2, 0, 0}, {0, 0, 1}, 0},
+        /* At time 1 the erased digit of time 0 is decided: both checks vote, and one of them being wrong it's a tie. */
+        {'P', 4, {3, 2, 3, 2}, {3, 2, 1, 2}, {1, 0, 0, 0}, {1, 0, 1}, 1},
+        /* All digits: what was sent comes out only if it was zeros, and then it has to. */
+        {'P', 4, {3, 2, 3, 2}, {3, 2, 3, 2}, {3, 3, 3, 3}, {0, 0, 0}, 0},
+        {'P', 4, {0, 0, 0, 0}, {3, 3, 3, 3}, {3, 3, 3, 3}, {0, 0, 0}, 1},
+        /* Stream 2's digit is not the own one of stream 1's checks: the second, which is wrong, is left alone. */
+        {'T', 4, {5, 4, 0, 0}, {5, 0, 0, 0}, {2, 0, 0, 0}, {0, 0}, 0},
+        /* s1 + s5 contains the digit of time 1 twice and doesn't touch it: it votes, s4 doesn't, and two of three are 1. */
+        {'R', 6, {0, 0, 0, 0, 0, 0}, {2, 2, 0, 0, 0, 0}, {0, 1, 0, 0, 0, 0}, {1}, 0},
+    };
+    for (size_t turn = 0; turn < sizeof cases / sizeof *cases; turn++)
+        expect_erased(&cases[turn]);
+}
+
 /* With length 0 a pointer may be null. */
 static void null_pointers(void)
 {
@@ -1051,6 +1103,7 @@ static void bench_round(struct random *r)
     bench_cards(r);
     bench_stated(r);
     bench_written(r);
+    bench_erased();
     null_pointers();
 }
 

@@ -44,16 +44,16 @@ static enum manner manner;
 static int selected; /* the receiving session, by the last `s` */
 static long calls;   /* to receive a frame; where both sessions get it, one to each */
 
-/* The stream with which the trace begins, all its frames with the tail. Of an erased digit, bit s - 1 of `erased` for
- * stream s, `received` is not looked at. */
+/* The stream with which the trace begins, all its frames with the tail. In `erased` bit s - 1 stands for a digit of
+ * stream s; what `received` has in its place is any. */
 static struct {
     struct fields card;
     long count; /* information frames */
     uint8_t sent[MOST_STREAM], received[MOST_STREAM], erased[MOST_STREAM];
-    int whole;   /* whether it is received from time 0 to its last frame: by both sessions, or by the one named here */
+    int whole;   /* whether it is received from time 0 to its last frame: by both sessions, or by this one */
     int session;
     long calls;  /* up to its last frame, refused ones included */
-    size_t end;  /* of these in the trace */
+    size_t end;  /* the place in the trace after them */
     int beyond;  /* whether it is beyond the correctable number */
 } stream;
 
@@ -72,9 +72,9 @@ static struct {
     long streams, streams_beyond, stream_frames, stream_frames_beyond;
 } alike;
 
-/* The streams received whole: those that had to come out as sent; those with an erased digit, of which some had to as
- * well and some were beyond it; decisions in which a check did not vote, and in which none did; and digits 1 that were
- * erased and had to come out. */
+/* The streams received whole: those that came out as sent, as they had to; of those with erased digits, the ones that
+ * did and the ones that were beyond the correctable number. And in the latter two: decisions in which a check did not
+ * vote, and in which none did; and information digits 1 that were erased and had to come out. */
 static struct {
     long as_sent;
     long erased_as_sent, erased_beyond;
@@ -720,7 +720,6 @@ static int as_sent(int session, const struct text *written)
     return 0;
 }
 
-/* The decisions on a digit of a stream that came out as it had to. */
 static void count_decision(int i, long u)
 {
     int votes = reference_votes(&stream.card, stream.erased, i, u);
@@ -748,11 +747,10 @@ static int as_it_must(const struct text *written)
 {
     if (!stream.whole)
         return 1;
-    int right = stream.beyond || as_sent(stream.session, written);
-    if (manner == BOTH)
-        right = right && (stream.beyond || as_sent(1 - stream.session, written));
     count_whole();
-    return right;
+    if (stream.beyond)
+        return 1;
+    return as_sent(stream.session, written) && (manner != BOTH || as_sent(1 - stream.session, written));
 }
 
 /* ---- One trace ---- */
@@ -819,7 +817,7 @@ static void print_counts(long traces)
            alike.streams, alike.streams_beyond, alike.stream_frames, alike.stream_frames_beyond);
     printf("%ld streams received whole by both or by one had to come out as sent\n", whole_streams.as_sent);
     printf("with erased digits: %ld of them, and %ld beyond the correctable number; decisions in which a check did not "
-           "vote: %ld, in which none did: %ld; erased digits 1 that had to come out: %ld\n",
+           "vote: %ld, in which none did: %ld; erased information digits 1 that had to come out: %ld\n",
            whole_streams.erased_as_sent, whole_streams.erased_beyond, whole_streams.some_silent,
            whole_streams.all_silent, whole_streams.restored);
 }
