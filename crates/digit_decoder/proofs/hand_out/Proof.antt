@@ -26,7 +26,6 @@ cast-handed c =
     let k = d .before .before .before .before .before .before .before .before .before .before .before .at-most in
     record { fits = decide-fits _ _ _ _ _ _ _ _ _ (omega (arith, k .ensures)) (d .decide .ensures) }
 
-
 moved-on-requires-2 : tie.Need-moved-on-requires-2
 moved-on-requires-2 c κs = search needs
 
