@@ -25,6 +25,7 @@ erased-rows =
       decided-times = refl;
       two-syndromes = refl;
       two-syndromes-lost = refl;
+      own-stream = refl;
       other-stream = refl;
     }
 
@@ -44,5 +45,6 @@ erased-rows-by-digits =
       decided-times = refl;
       two-syndromes = refl;
       two-syndromes-lost = refl;
+      own-stream = refl;
       other-stream = refl;
     }

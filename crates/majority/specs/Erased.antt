@@ -20,13 +20,16 @@ pub record ErasedRows (handed : Card → List ℕ → List ℕ → List ℕ) : T
   pub no-vote-not-lost : handed Q (1 ∷ 0 ∷ 0 ∷ 0 ∷ []) [] ≡ 0 ∷ []
   -- every digit is erased
   pub all-lost : handed P (0 ∷ 0 ∷ 0 ∷ 0 ∷ []) (3 ∷ 3 ∷ 3 ∷ 3 ∷ []) ≡ 0 ∷ 0 ∷ 0 ∷ []
-  -- every second digit is erased. P sends 1, 1, 0 as 3, 1, 2, 0: of the parity digits alone all come out, of the information digits alone as well
+  -- every second digit is erased. P sends 1, 1, 0 as 3, 1, 2, 0, and the parity digits alone tell them; 1, 0, 1 as 3, 2, 3, 2, and without parity digits they
+  -- come out as received
   pub information-lost : handed P (2 ∷ 0 ∷ 2 ∷ 0 ∷ []) (1 ∷ 1 ∷ 1 ∷ 1 ∷ []) ≡ 1 ∷ 1 ∷ 0 ∷ []
-  pub parity-lost : handed P (1 ∷ 1 ∷ 0 ∷ 0 ∷ []) (2 ∷ 2 ∷ 2 ∷ 2 ∷ []) ≡ 1 ∷ 1 ∷ 0 ∷ []
+  pub parity-lost : handed P (1 ∷ 0 ∷ 1 ∷ 0 ∷ []) (2 ∷ 2 ∷ 2 ∷ 2 ∷ []) ≡ 1 ∷ 0 ∷ 1 ∷ []
   -- "at a time not yet decided": P sends 1, 1 as 3, 1, 2. Frame 0 is lost and put right; then both checks vote on digit 1, the second of them wrongly: a tie
   pub decided-times : handed P (0 ∷ 1 ∷ 0 ∷ []) (3 ∷ 0 ∷ 0 ∷ []) ≡ 1 ∷ 1 ∷ []
   -- a check of two syndromes: R's s1 + s5 touches the parity digits of times 1 and 5, and not that of time 2; s0, s3, s4 and it are 1, 0, 0, 1
   pub two-syndromes : handed R (2 ∷ 2 ∷ 0 ∷ 0 ∷ 0 ∷ 0 ∷ []) (0 ∷ 0 ∷ 2 ∷ 2 ∷ 0 ∷ 0 ∷ []) ≡ 1 ∷ []
   pub two-syndromes-lost : handed R (2 ∷ 2 ∷ 0 ∷ 0 ∷ 0 ∷ 0 ∷ []) (0 ∷ 0 ∷ 2 ∷ 2 ∷ 0 ∷ 2 ∷ []) ≡ 0 ∷ []
-  -- T sends 3 as 3, 4, 4: the digit of stream 2 is erased, and s0 votes on it and not on that of stream 1
-  pub other-stream : handed T (1 ∷ 4 ∷ 4 ∷ []) (2 ∷ 0 ∷ 0 ∷ []) ≡ 3 ∷ []
+  -- T sends 3 as 3, 4, 4: the digit of stream 2 is erased, and s0 votes on it and not on that of stream 1. Where that came wrong too, s1 alone puts it right,
+  -- and s0 would make a tie; on the erased one s0 and s2 are a tie, and s2 alone would decide 1
+  pub own-stream : handed T (1 ∷ 4 ∷ 4 ∷ []) (2 ∷ 0 ∷ 0 ∷ []) ≡ 3 ∷ []
+  pub other-stream : handed T (0 ∷ 4 ∷ 4 ∷ []) (2 ∷ 0 ∷ 0 ∷ []) ≡ 1 ∷ []

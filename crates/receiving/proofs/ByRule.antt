@@ -39,5 +39,8 @@ module _ {S : Type 0} (x : Circuit S) (rule : Card → List ℕ → List ℕ →
         record {
           handed-by-rule = handed-are;
           answers-by-rule = λ calls. from-start calls .answers-are;
-          comes-out-as-sent = λ calls info small whole few. handed-are calls ∙ as-sent info (takenFrames x s calls) (takenErased x s calls) small whole few;
+          comes-out-as-sent = λ calls info small whole few.
+              let h = handed-are calls in
+              let w = as-sent info (takenFrames x s calls) (takenErased x s calls) small whole few in
+              cc;
         }
