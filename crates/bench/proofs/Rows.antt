@@ -8,6 +8,7 @@ use Rattle.code.specs.Judging.{clashes, judge}
 use Rattle.card.specs.Fields.{store, storeRows, storeChecks, storeStreams, storeCounts, cardOf}
 use Rattle.card.specs.Reading.{byteField, standingField, kField, nField, mapField, wordAt, maskField, readHead, standingMask, readMasks, readRows, readGenerators, touchedBy, readCheck, readChecks, readStreams, readFields, readUnder}
 use Rattle.majority.specs.Rule.{syndrome, cleared, checkAt, voting, voters, votes, decide, decideFrame, decided, corrected, decoded}
+use Rattle.majority.proofs.Erased.{erased-rows}
 use Rattle.receiving.specs.Calls.{answersBy}
 use Rattle.outcomes.specs.Outcome.{refusedOf, givenOf, withRoom, underCard}
 use Rattle.outcomes.specs.Receiving.{receiveUnder, receiveOf}
@@ -47,4 +48,5 @@ rows =
       end-first = refl;
       other-n = refl;
       other-k = refl;
+      erased = erased-rows;
     }

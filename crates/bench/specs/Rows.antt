@@ -11,7 +11,9 @@ use Rattle.code.specs.Code.{sent}
 use Rattle.card.specs.Outcome.Outcome.{accepted, refused}
 use Rattle.card.specs.Reading.{readUnder, readCard}
 use Rattle.card.specs.declared.CardRule.the-variants.{Former}
+use Rattle.majority.specs.Erased.{ErasedRows}
 use Rattle.majority.specs.Plain.{decoded}
+use Rattle.majority.specs.Rule as Rule
 use Rattle.receiving.specs.Answers.{waiting}
 use Rattle.receiving.specs.Calls.{answersBy}
 use Rattle.outcomes.specs.Receiving.{receiveOf}
@@ -47,7 +49,7 @@ pub record Rows : Type 0 where
   -- "Q receives 2, 2, 0, 0 as 1 (two of three votes)."
   pub Q-receives : decoded (readCard (cardQ (s 0 ∷ s 1 ∷ s 3 ∷ [])) .card) (2 ∷ 2 ∷ 0 ∷ 0 ∷ []) ≡ 1 ∷ []
   -- "P receives one frame: waiting."
-  pub P-receives-one : answersBy decoded (readCard cardP .card) (3 ∷ []) ≡ waiting ∷ []
+  pub P-receives-one : answersBy Rule.decoded (readCard cardP .card) (3 ∷ []) [] ≡ waiting ∷ []
   -- "An empty burst received: 0 frames."
   pub empty-burst : receiveOf cardP [] [] ≡ record { answer = pos 0; output = [] }
   -- not the document's: without feedback T would give other frames, and feeding stream 1 back before stream 2 is decided would too
@@ -68,3 +70,5 @@ pub record Rows : Type 0 where
   -- what is not a default may stand: n 3, and k 2 with n 3; here m is cut short
   pub other-n : readCard (2 ∷ 7 ∷ 3 ∷ []) .outcome ≡ refused 1 3
   pub other-k : readCard (3 ∷ 7 ∷ 2 ∷ 3 ∷ []) .outcome ≡ refused 1 4
+  -- R-6: "a check that touches an erased digit other than its own, at a time not yet decided, doesn't vote"
+  pub erased : ErasedRows Rule.decoded

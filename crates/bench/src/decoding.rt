@@ -14,6 +14,7 @@ pub(crate) fn cases() {
     sessions();
     levels::digits();
     mixed_sessions();
+    levels::erasures();
     whole_bursts();
 }
 
@@ -86,15 +87,15 @@ fn receive_zeros(s: Session, times: u32) -> Session {
     run.session
 }
 
-// An `f` asks for the link figure, a `z` for the frame 0 thirty times, an `=` for it as often as a stream may have frames. A letter of
-// `levels` is a reading, with a level above zero after it. Any other byte is the frame, but for spaces and card numbers.
+// An `f` asks for the link figure, a `z` for the frame 0 thirty times, an `=` for it as often as a stream may have frames. Any other
+// letter is a frame as readings, by `levels::frame`. Any other byte is the frame, but for spaces and card numbers.
 fn step(s: Session, number: u8, fed: u8) -> Session {
     match fed {
         b' ' | b'0'..=b'9' => s,
         b'f' => figure(s),
         b'z' => receive_zeros(s, 30),
         b'=' => receive_zeros(s, MOST_FRAMES as u32),
-        b'h' | b'e' | b'n' => levels::receive(s, number, levels::lettered(fed, b'e', b'-')),
+        b'A'..=b'Z' | b'a'..=b'z' => levels::receive(s, number, levels::frame(fed)),
         _ => receive(s, number, fed),
     }
 }
@@ -148,7 +149,7 @@ fn sessions() {
 fn mixed_sessions() {
     tables::each(
         Kind::Receiving,
-        b"P receives 3 as readings, 3, 3 as bytes, 2 as readings|Ph\x03\x03e;\
+        b"P receives 3 as readings, 3, 3 as bytes, 2 as readings|Ph\x03\x03H;\
           P receives NaN under card number 8, then NaN, 3, 2 under 7|P 8 n 7 n\x03\x02;\
           P receives 3, 4 under card number 8, then 4, 3, 2 under 7|P 8 \x03\x04 7 \x04\x03\x02;\
           the first 19 bytes of P receive 3 under card numbers 7 and 0|p 7 \x03 0 \x03;",

@@ -1,4 +1,4 @@
-// The cases of readings: document 01, "Readings and bursts", and the refusal 12.
+// The cases of readings: document 01, "Readings and bursts", and the refusal 12; document 02, R-6, erased digits.
 use crate::decoding;
 use crate::lines;
 use crate::tables;
@@ -13,16 +13,11 @@ pub(crate) fn receive(s: Session, number: u8, readings: [Reading; 8]) -> Session
     received.session
 }
 
-// Eight readings: the second is a level above zero, and those after the third are alike.
-fn readings(first: Reading, third: Reading, other: Reading) -> [Reading; 8] {
-    let above = Reading::Level(1.0);
-    [first, above, third, other, other, other, other, other]
-}
-
-// The level that a letter of a row stands for: half, zero, the smallest above zero, the largest, not a number, infinity. A capital is minus
-// it; a dash, as any other byte, is minus one.
+// The level that a letter of a row stands for: one, half, zero, the smallest above zero, the largest, not a number, infinity. A capital is
+// minus it; a dash, as any other byte, is minus one.
 fn level(letter: u8) -> f32 {
     match letter {
+        b'+' => 1.0,
         b'h' => 0.5,
         b'H' => -0.5,
         b'z' => 0.0,
@@ -44,16 +39,34 @@ fn reading(letter: u8) -> Reading {
     }
 }
 
-pub(crate) fn lettered(first: u8, third: u8, other: u8) -> [Reading; 8] {
-    readings(reading(first), reading(third), reading(other))
+// Eight readings by their letters; those after the third are alike.
+fn lettered(first: u8, second: u8, third: u8, other: u8) -> [Reading; 8] {
+    let one = reading(first);
+    let two = reading(second);
+    let three = reading(third);
+    let more = reading(other);
+    [one, two, three, more, more, more, more, more]
 }
 
-// What a row feeds are the letters of the first reading, of the third and of those after it. The card has no memory.
+// The frame that a letter of a session's row stands for. An `e` has its first digit erased and 1 as its second, a `p` has 1 as its first and
+// its second erased, and a capital has 0 for the 1; an `x` is a lost frame, all of it erased. Any other letter is a level, and 1 after it.
+pub(crate) fn frame(letter: u8) -> [Reading; 8] {
+    match letter {
+        b'E' => lettered(b'e', b'-', b'-', b'-'),
+        b'p' => lettered(b'+', b'e', b'-', b'-'),
+        b'P' => lettered(b'-', b'e', b'-', b'-'),
+        b'x' => lettered(b'e', b'e', b'e', b'e'),
+        _ => lettered(letter, b'+', b'-', b'-'),
+    }
+}
+
+// What a row feeds are the letters of the first reading, of the third and of those after it; the second is one. The card has no memory.
 pub(crate) fn row(fed: &[u8]) {
     let s = decoding::opened(b'M');
     let card = s.card;
     let levels = lettered(
         tables::byte(fed, 0),
+        b'+',
         tables::byte(fed, 1),
         tables::byte(fed, 2),
     );
@@ -77,5 +90,27 @@ pub(crate) fn digits() {
           m 0 reads minus infinity, 1, -1|I--;\
           m 0 reads 0.5, 1, NaN|hn-;\
           m 0 reads 0.5, 1, -1, then NaN|h-n;",
+    );
+}
+
+// Q sends 1 as 3, 2, 0, 2; P sends 1, 1, 0 as 3, 1, 2, 0, and 1, 0, 1 as 3, 2, 3, 2; T sends 3 as 3, 4, 4. A digit besides may be wrong. A row
+// with nothing erased has the frames of the one before it, as bytes.
+pub(crate) fn erasures() {
+    tables::each(
+        Kind::Receiving,
+        b"Q receives 1, a lost frame, 0, 2|Q\x01x\x00\x02;\
+          Q receives 1, 0, 0, 2|Q\x01\x00\x00\x02;\
+          Q receives 2, 2, 0, 0, the first information digit erased|Qe\x02\x00\x00;\
+          Q receives 1, 0, 0, 0, all parity digits but the third erased, so that J is 0|QpP\x00P;\
+          Q receives 1, 0, 0, 0|Q\x01\x00\x00\x00;\
+          P receives 2, 0, 2, 0, every information digit erased|PeEeE;\
+          P receives 1, 1, 0, 0, every parity digit erased|PppPP;\
+          P receives 1, 0, 1, 0, every parity digit erased|PpPpP;\
+          P receives four lost frames|Pxxxx;\
+          P receives a lost frame, 1, 0|Px\x01\x00;\
+          P receives 0, 1, 0|P\x00\x01\x00;\
+          T receives 1, 4, 4, the first digit of stream 2 erased|Tp\x04\x04;\
+          T receives 0, 4, 4, the first digit of stream 2 erased|TP\x04\x04;\
+          P receives 2, 0, 2, 0, every information digit erased, with the figure|PfefEfefEf;",
     );
 }
