@@ -94,7 +94,8 @@ pub(crate) fn digits() {
 }
 
 // Q sends 1 as 3, 2, 0, 2; P sends 1, 1, 0 as 3, 1, 2, 0, and 1, 0, 1 as 3, 2, 3, 2; T sends 3 as 3, 4, 4. A digit besides may be wrong. A row
-// with nothing erased has the frames of the one before it, as bytes.
+// with nothing erased has the frames of the one before it as bytes, 0 for a lost one. T's s0 votes on stream 2, whose own digit is erased, and not
+// on stream 1: with votes on both, its second row would give 0, and with none 3.
 pub(crate) fn erasures() {
     tables::each(
         Kind::Receiving,
