@@ -1,4 +1,4 @@
-pub mod Errors
+pub mod Deciding
 pub mod Step
 pub mod Composed
 pub mod Follow

@@ -31,7 +31,7 @@ use Rattle.receiving.specs.Receive.{placeOf}
 use Rattle.majority.proofs.Voting.{decide-unerased}
 use Rattle.majority.proofs.Streams.{decided-length, decided-at}
 use Rattle.majority.proofs.Feedback.{syndrome-lt, cleared-new, cleared-fed}
-use Rattle.decoder.proofs.Errors.{errors-quiet, errors-marked}
+use Rattle.decoder.proofs.Deciding.{errors-quiet, errors-marked}
 
 -- the registers hold the syndromes of times u to n - 1, with the errors decided before u taken out
 abbrev pub SyndromesAt : Card → List ℕ → List ℕ → ℕ → ℕ → List ℕ → Type 0

@@ -126,13 +126,14 @@ fn hand_out(s: Session) -> Received
     let frame = registers::corrected(&history, errors, k, card.m);
     let cleared = registers::taken_out(&held, &card.generators, errors, k, p);
     let syndromes = code::moved_on(&cleared);
+    let later = voters::erased::moved_on(erased);
     Received {
         answer: Answer::Frame(frame),
         session: Session {
             card,
             history,
             syndromes,
-            erased: voters::erased::moved_on(erased),
+            erased: later,
             received: s.received,
         },
     }

@@ -123,13 +123,14 @@ fn hand_out(s: Session) -> Received
     let decided = registers::with_decided(&earlier, frame, k);
     let digits = code::moved_on(&held);
     let handed = frame as u8;
+    let later = voters::erased::moved_on(erased);
     Received {
         answer: Answer::Frame(handed),
         session: Session {
             card,
             digits,
             decided,
-            erased: voters::erased::moved_on(erased),
+            erased: later,
             received: s.received,
         },
     }

@@ -1,6 +1,6 @@
 use mathlib.Core.Path.{sym, _∙_}
 use borrow.Author.Needs.{needs}
-use Rattle.decoder.proofs.Errors.{errors-none, errors-quiet, errors-marked}
+use Rattle.decoder.proofs.Deciding.{errors-none, errors-quiet, errors-marked}
 use Rattle.decoder.proofs.registers.errors.Statement.{statement}
 use Rattle.decoder.proofs.registers.errors.Tie as tie
 
