@@ -16,8 +16,8 @@ use Rattle.bits.specs.Digits.{bit, dot, shiftUp}
 use Rattle.bits.proofs.Back.{back-in, back-out, back-suc}
 use Rattle.bits.proofs.Cases.{le-or-lt, last-or-below}
 use Rattle.bits.proofs.Digits.{bit-lt, bit-suc, bit-shift, bit-high, bit-xor, bit-xors, bit-masks, bit-times, place-same, place-other, from-digits-same}
-use Rattle.bits.proofs.Held.{held, held-in, put-in, moved}
-use Rattle.bits.proofs.Lists.{upTo-at, part-at}
+use Rattle.bits.proofs.Held.{held, held-in, moved}
+use Rattle.bits.proofs.Lists.{part-at}
 use Rattle.bits.proofs.Sums.{sum-same, sum-cong, sum-mod, sum-cut, sum-one-more, mul-mod-left}
 use Rattle.bits.proofs.Words.{bit-up, bit-up-low, shift-digit}
 use Rattle.code.specs.Code.{generator, digit}

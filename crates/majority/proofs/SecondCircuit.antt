@@ -14,7 +14,7 @@ use lib.Dec.{ltb}
 use borrow.Author.Tests.{lt-ltb, le-ltb}
 use Rattle.bits.specs.Digits.{bit}
 use Rattle.bits.proofs.Cases.{le-or-lt, last-or-below}
-use Rattle.bits.proofs.Sums.{sum-same, sum-cong, sum-add, sum-mod, sum-none, sum-const, mul-mod-left}
+use Rattle.bits.proofs.Sums.{sum-same, sum-cong, sum-add, sum-mod, sum-none, mul-mod-left}
 use Rattle.bits.proofs.Digits.{bit-from-digits, from-digits-same}
 use Rattle.bits.proofs.Lists.{grown-length, grown-at}
 use Rattle.code.specs.Code.{digit}

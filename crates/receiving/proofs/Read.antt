@@ -7,7 +7,7 @@ use Rattle.bits.specs.Sums.{sumBelow}
 use Rattle.bits.specs.Digits.{fromDigits, shiftUp}
 use Rattle.bits.proofs.Sums.{sum-more}
 use Rattle.bits.proofs.Words.{shift-digit, placed-lt, placed-more}
-use Rattle.receiving.specs.Readings.{ReadingYield, digit, erased, digitOf, digitIn, markIn, faultIn, readingAt, faults, frameRead, erasedRead, yields, readFrameOf}
+use Rattle.receiving.specs.Readings.{digit, erased, digitOf, digitIn, markIn, faultIn, readingAt, faults, frameRead, erasedRead, yields, readFrameOf}
 use Rattle.receiving.specs.declared.Reading.{Reading}
 use Rattle.receiving.proofs.Yields.{told, read-whole}
 

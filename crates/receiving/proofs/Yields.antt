@@ -10,7 +10,7 @@ use lib.Ieee.Fits.{up-pos}
 use lib.IntN.{pos}
 use borrow.Author.Tests.{ltb-true, ltb-false, lt-ltb, le-ltb, lt-leb, le-leb}
 use Rattle.bits.proofs.Sums.{term-le-sum}
-use Rattle.receiving.specs.Readings.{ReadingYield, digit, erased, refusal, yields, refuses, digitOfLevel, digitOf, digitIn, markIn, faultIn, readingAt, faults, frameRead, erasedRead, readByteOf, readFrameOf}
+use Rattle.receiving.specs.Readings.{ReadingYield, digit, erased, refusal, yields, refuses, digitOfLevel, digitOf, digitIn, faultIn, readingAt, faults, frameRead, erasedRead, readByteOf, readFrameOf}
 use Rattle.receiving.specs.declared.Reading.{Reading}
 use Rattle.receiving.specs.declared.Reading.the-variants.{Level, Erased}
 

@@ -1,33 +1,25 @@
--- The vote on registers, for tables and registers of every value: what it is at most, one check and one stream more, registers that hold no 1, and
--- registers by which nothing is erased.
+-- The vote on registers, for tables and registers of every value: what it is at most, one check and one stream more, and registers that hold no
+-- 1.
 use Prim.Native.Nat.{ℕ, _+_, _*_, _^_, _≤_, _<_, min, zero-le}
-use mathlib.Core.Path.{_≡_, refl, ap, ap₂, _∙_}
-use mathlib.Core.Bool.{Bool, true, false, cond}
+use mathlib.Core.Path.{_≡_, ap, ap₂, _∙_}
+use mathlib.Core.Bool.{cond}
 use mathlib.Core.List.{List}
-use native.Mathlib.Nat.{mul-zero, mul-one, one-mul, mul-le-mul-left, le-trans, le-of-eq, lt-of-lt-of-le}
+use native.Mathlib.Nat.{mul-zero, mul-one, mul-le-mul-left, le-trans, le-of-eq}
 use native.Mathlib.Omega.{arith}
 use lib.ListN.{getD}
 use lib.Dec.{ltb, eqb}
-use lib.Pow.{pow-mono}
-use borrow.Author.Tests.{lt-ltb, le-ltb, eq-eqb}
-use Rattle.bits.specs.Digits.{bit, fromDigits, shiftUp}
-use Rattle.bits.proofs.Sums.{sum-cong, sum-const, sum-mono, sum-none, sum-step}
+use borrow.Author.Tests.{lt-ltb, le-ltb}
+use Rattle.bits.specs.Digits.{fromDigits, shiftUp}
+use Rattle.bits.proofs.Sums.{sum-const, sum-mono, sum-none, sum-step}
 use Rattle.bits.proofs.Cases.{cond-le}
-use Rattle.bits.proofs.Digits.{bit-of-zero, from-digits-lt, from-digits-same}
+use Rattle.bits.proofs.Digits.{from-digits-lt}
 use Rattle.bits.proofs.Words.{placed-fits, placed-more}
-use Rattle.code.specs.Checks.{touchesBy}
-use Rattle.code.specs.Judging.{clashes, judge}
+use Rattle.code.specs.Judging.{judge}
 use Rattle.code.specs.declared.Card.{Card}
-use Rattle.code.proofs.Judging.{no-clash}
 use Rattle.orthogonal.specs.Pass.{holds, Passed, wordCode, informationStreams, parityStreams, firstMasks}
-use Rattle.majority.specs.Voting.{checkBy, streamCheckBy, votesBy, streamVotesBy, majorityBy, decideBy}
+use Rattle.majority.specs.Voting.{checkBy, streamCheckBy}
 use Rattle.majority.proofs.Voting.{check-lt, check-none}
 use Rattle.voters.specs.Voters.{masksAt, votingBy, votersBy, onesBy, streamVotersBy, streamOnesBy, majorityVotingBy, decideVotingBy}
-
--- a check without a clash, whether it touches its own digit or not
-votes-unclashed : (own : Bool) → _≡_ {A = ℕ} (cond (eqb (cond own 0 8) 9) 0 1) 1
-votes-unclashed true = refl
-votes-unclashed false = refl
 
 module _ (generators checks erased : List ℕ) (k p i : ℕ) where
   abbrev code : Card
@@ -80,30 +72,6 @@ module _ (generators checks erased : List ℕ) (k p i : ℕ) where
       unfolding onesBy
       ones-more g = sum-step q (λ q. votingBy generators checks erased k p i q * checkBy checks (i * 128 + q * 8) words p) g (ap₂ _*_ e check-there)
 
-  -- registers by which no digit is erased
-  module _ (none : (s : ℕ) → s < min (k + p) 8 → getD erased s 0 ≡ 0) where
-    no-clashes : (q : ℕ) → clashes code i (mask q) (holds erased) ≡ 0
-    unfolding holds
-    no-clashes q =
-        no-clash code i (mask q) (holds erased)
-        (λ b s lb ls other t h.
-        let z = ap (λ x. bit x b) (none s (omega arith)) ∙ bit-of-zero b in
-        absurd (omega arith))
-
-    every-votes : (q : ℕ) → votingBy generators checks erased k p i q ≡ 1
-    unfolding votingBy judge
-    every-votes q =
-        ap (λ b. cond (eqb (cond (eqb (touchesBy code (mask q) 0 i) 1) (cond b 0 9) 8) 9) 0 1) (eq-eqb (clashes code i (mask q) (holds erased)) 0 (no-clashes q))
-        ∙ votes-unclashed (eqb (touchesBy code (mask q) 0 i) 1)
-
-    pub voters-plain : (n : ℕ) → votersBy generators checks erased k p i n ≡ n
-    unfolding votersBy
-    voters-plain n = sum-cong n every-votes ∙ sum-const n 1 ∙ mul-one n
-
-    pub ones-plain : (words : List ℕ) (n : ℕ) → onesBy generators checks words erased k p i n ≡ votesBy checks i n words p
-    unfolding onesBy votesBy
-    ones-plain words n = sum-cong n (λ q. ap (λ x. x * checkBy checks (i * 128 + q * 8) words p) (every-votes q) ∙ one-mul (checkBy checks (i * 128 + q * 8) words p))
-
 -- ---- a stream within the tables
 module _ (generators checks : List ℕ) (i n : ℕ) (erased : List ℕ) (k p : ℕ) (li : i < 4) where
   pub stream-voters-there : streamVotersBy generators checks i n erased k p ≡ votersBy generators checks erased k (min p 8) i (min n 16)
@@ -113,18 +81,6 @@ module _ (generators checks : List ℕ) (i n : ℕ) (erased : List ℕ) (k p : �
   pub stream-ones-there : (words : List ℕ) → streamOnesBy generators checks i n words erased k p ≡ onesBy generators checks words erased k (min p 8) i (min n 16)
   unfolding streamOnesBy
   stream-ones-there words = rw (lt-ltb i 4 li)
-
-  -- registers by which no digit is erased
-  module _ (none : (s : ℕ) → s < min (k + p) 8 → getD erased s 0 ≡ 0) where
-    still-none : (s : ℕ) → s < min (k + min p 8) 8 → getD erased s 0 ≡ 0
-    still-none s l = none s (omega arith)
-
-    pub stream-voters-plain : streamVotersBy generators checks i n erased k p ≡ min n 16
-    stream-voters-plain = stream-voters-there ∙ voters-plain generators checks erased k (min p 8) i still-none (min n 16)
-
-    pub stream-ones-plain : (words : List ℕ) → streamOnesBy generators checks i n words erased k p ≡ streamVotesBy checks i n words p
-    unfolding streamVotesBy
-    stream-ones-plain words = stream-ones-there words ∙ ones-plain generators checks erased k (min p 8) i still-none words (min n 16) ∙ rw (lt-ltb i 4 li)
 
 -- ---- the decided errors, one stream after the other
 module _ (generators counts checks syndromes erased : List ℕ) (k p : ℕ) where
@@ -153,15 +109,6 @@ module _ (generators counts checks syndromes erased : List ℕ) (k p : ℕ) wher
       let ld : d < 2 = rw r (error-lt i) in
       (placed-fits e d i le ld h, placed-more e d i le ld h errorVoting q r)
 
-  -- ---- what is decided
-  pub decide-voting-lt : decideVotingBy generators counts checks syndromes erased k p < 2 ^ 4
-  unfolding decideVotingBy
-  decide-voting-lt = lt-of-lt-of-le (from-digits-lt (min k 4) errorVoting (λ a l. error-lt a)) (pow-mono {i = min k 4} {j = 4} (omega arith))
-
-  pub decide-voting-lt-k : k ≤ 4 → decideVotingBy generators counts checks syndromes erased k p < 2 ^ k
-  unfolding decideVotingBy
-  decide-voting-lt-k h = lt-of-lt-of-le (from-digits-lt (min k 4) errorVoting (λ a l. error-lt a)) (pow-mono {i = min k 4} {j = k} (omega arith))
-
   -- registers that hold no 1 vote for nothing
   module _ (none : (j : ℕ) → j < p → getD syndromes j 0 ≡ 0) where
     ones-none : (i n : ℕ) → onesBy generators checks syndromes erased k (min p 8) i n ≡ 0
@@ -180,14 +127,3 @@ module _ (generators counts checks syndromes erased : List ℕ) (k p : ℕ) wher
     pub decide-voting-none : decideVotingBy generators counts checks syndromes erased k p ≡ 0
     unfolding decideVotingBy fromDigits
     decide-voting-none = sum-none (min k 4) _ (λ i l. ap (λ d. d * 2 ^ i) (error-none i) ∙ omega arith)
-
-  -- registers by which no digit is erased decide as if there were none
-  pub decide-voting-plain : ((s : ℕ) → s < min (k + p) 8 → getD erased s 0 ≡ 0)
-      → decideVotingBy generators counts checks syndromes erased k p ≡ decideBy counts checks syndromes k p
-  unfolding decideVotingBy decideBy majorityVotingBy majorityBy
-  decide-voting-plain none =
-      from-digits-same (min k 4) _ _
-      (λ i l.
-      let n = min (getD counts i 0) 16 in
-      let none' : (s : ℕ) → s < min (k + min p 8) 8 → getD erased s 0 ≡ 0 = λ s ls. none s (omega arith) in
-      ap₂ (λ v o. cond (ltb v (2 * o)) 1 0) (voters-plain generators checks erased k (min p 8) i none' n) (ones-plain generators checks erased k (min p 8) i none' syndromes n))
