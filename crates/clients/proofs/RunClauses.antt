@@ -19,7 +19,8 @@ use Rattle.receiving.specs.Readings.{readByteOf}
 use Rattle.receiving.specs.Receive as received
 use Rattle.voters.specs.ErasedDigits.{erasedWith, erasedMoved}
 use Rattle.decoder.specs.Registers.{syndromeBy, withSyndromes, errorsBy, correctedDigit, correctedBy, feedbackBy, clearedBy, takenOutBy, fedBackBy}
-use Rattle.decoder.specs.Receive.{firstCircuit, historyWith, syndromesWith, marksWith, errorsOf, withFrame, handingOf, takenOf}
+use Rattle.decoder.specs.Held.{heldWith, errorsIn, heldAfter}
+use Rattle.decoder.specs.Receive.{firstCircuit, errorsOf, withFrame, handingOf, takenOf}
 use Rattle.encoder.specs.Calls.{callOf, givenBy, framesGiven}
 use Rattle.encoder.specs.Opening as sender
 use Rattle.encoder.specs.Sending as sent
@@ -59,7 +60,7 @@ abbrev information : List ℕ
 information = 1 ∷ 2 ∷ 0 ∷ 1 ∷ []
 
 frames-out : (receiving.framesOf (received.openOf firstCircuit P) oneWrong ≡ 1 ∷ 0 ∷ 1 ∷ []) × (receiving.framesOf (received.openOf firstCircuit P) oneRefused ≡ 1 ∷ 0 ∷ 1 ∷ [])
-unfolding sumBelow xorBelow upTo bit fromDigits dot shiftUp generatorMask shiftIn historyBy parityBy movedOn checkBy votesBy majorityBy decideBy erasedWith erasedMoved syndromeBy withSyndromes errorsBy correctedDigit correctedBy feedbackBy clearedBy takenOutBy fedBackBy historyWith syndromesWith marksWith errorsOf readByteOf received.openOf withFrame handingOf takenOf received.inTurn received.admitOf received.refusedOf received.settledOf received.receiveOf received.receiveByteOf replyOf handedBy handedOut
+unfolding sumBelow xorBelow upTo bit fromDigits dot shiftUp generatorMask shiftIn historyBy parityBy movedOn checkBy votesBy majorityBy decideBy erasedWith erasedMoved syndromeBy withSyndromes errorsBy correctedDigit correctedBy feedbackBy clearedBy takenOutBy fedBackBy heldWith errorsIn heldAfter errorsOf readByteOf received.openOf withFrame handingOf takenOf received.inTurn received.admitOf received.refusedOf received.settledOf received.receiveOf received.receiveByteOf replyOf handedBy handedOut
 frames-out = (refl, refl)
 
 frames-sent : sending.framesOf (sent.openOf P) information ≡ 3 ∷ 2 ∷ 3 ∷ 2 ∷ []

@@ -23,7 +23,8 @@ use Rattle.orthogonal.specs.Pass.{holds}
 use Rattle.voters.specs.Voters.{masksAt, votingBy, votersBy, onesBy, majorityVotingBy, decideVotingBy}
 use Rattle.voters.specs.ErasedDigits.{erasedWith, erasedMoved}
 use Rattle.decoder.specs.Registers.{syndromeBy, withSyndromes, errorsBy, correctedDigit, correctedBy, feedbackBy, clearedBy, takenOutBy, fedBackBy}
-use Rattle.decoder.specs.Receive.{historyWith, syndromesWith, marksWith, errorsOf, withFrame, handingOf, takenOf, firstCircuit}
+use Rattle.decoder.specs.Held.{heldWith, errorsIn, heldAfter}
+use Rattle.decoder.specs.Receive.{errorsOf, withFrame, handingOf, takenOf, firstCircuit}
 use Rattle.decoder.specs.Claims.{Claims}
 use Rattle.decoder.specs.Example.{FigureOfP}
 use Rattle.decoder.specs.declared.Session.{Session}
@@ -40,7 +41,7 @@ taken-by = ((refl, refl), (refl, refl), (refl, refl), (refl, refl), (refl, refl)
 
 -- the answers, call by call: the second circuit's session is to give the same
 pub answers-P : answers firstCircuit (openOf firstCircuit P) callsP ≡ waiting ∷ frame 1 ∷ refused 14 ∷ refused 11 ∷ frame 0 ∷ refused 14 ∷ refused 12 ∷ frame 1 ∷ []
-unfolding sumBelow xorBelow upTo back bit fromDigits dot shiftUp generator touchesInfo touchesBy besides clashes judge generatorMask shiftIn historyBy parityBy withDigits movedOn checkBy votesBy majorityBy decideBy holds masksAt votingBy votersBy onesBy majorityVotingBy decideVotingBy erasedWith erasedMoved syndromeBy withSyndromes errorsBy correctedDigit correctedBy feedbackBy clearedBy takenOutBy fedBackBy historyWith syndromesWith marksWith errorsOf digitOfLevel digitOf digitIn markIn faultIn faults frameRead erasedRead readByteOf readFrameOf openOf withFrame handingOf takenOf inTurn admitOf refusedOf settledOf receiveOf receiveByteOf receiveReadingsOf replyOf answers
+unfolding sumBelow xorBelow upTo back bit fromDigits dot shiftUp generator touchesInfo touchesBy besides clashes judge generatorMask shiftIn historyBy parityBy withDigits movedOn checkBy votesBy majorityBy decideBy holds masksAt votingBy votersBy onesBy majorityVotingBy decideVotingBy erasedWith erasedMoved syndromeBy withSyndromes errorsBy correctedDigit correctedBy feedbackBy clearedBy takenOutBy fedBackBy heldWith errorsIn heldAfter errorsOf digitOfLevel digitOf digitIn markIn faultIn faults frameRead erasedRead readByteOf readFrameOf openOf withFrame handingOf takenOf inTurn admitOf refusedOf settledOf receiveOf receiveByteOf receiveReadingsOf replyOf answers
 answers-P = refl
 
 takes : {s t : Session} → s ≡ t → (calls : List Call) {frames erased : List ℕ} → Takes firstCircuit t calls frames erased → Takes firstCircuit s calls frames erased

@@ -31,7 +31,8 @@ use Rattle.voters.specs.ErasedDigits.{nothingErased, erasedWith, erasedMoved}
 use Rattle.voters.specs.declared.erased.Erased.{Erased}
 use Rattle.voters.proofs.ErasedDigits.{ErasedAt, erased-start, erased-next, erased-moved}
 use Rattle.decoder.specs.Registers.{withSyndromes, errorsBy, correctedBy, fedBackBy, onesBy}
-use Rattle.decoder.specs.Receive.{historyWith, syndromesWith, marksWith, withFrame, errorsOf, handingOf, takenOf, firstCircuit, linkFigureOf}
+use Rattle.decoder.specs.Held.{heldWith, errorsIn, heldAfter}
+use Rattle.decoder.specs.Receive.{withFrame, errorsOf, handingOf, takenOf, firstCircuit, linkFigureOf}
 use Rattle.decoder.specs.Claims.{Claims}
 use Rattle.decoder.specs.declared.Session.{Session}
 use Rattle.decoder.proofs.Step.{SyndromesAt, syndromes-next, decide-next, corrected-next, fed-next}
@@ -52,13 +53,13 @@ module _ (c : Card) (G : Guarantees c) (h y : List ℕ) (e : Erased) (n : ℕ) w
       → withFrame (session c h y e n) f marks
       ≡ session c (historyBy h (c .k) f) (withSyndromes y (c .generators) (historyBy h (c .k) f) (c .k) (c .p) f (placeOf n (c .m)))
       (erasedWith e marks (c .k + c .p) (placeOf n (c .m))) (suc n)
-  unfolding withFrame syndromesWith historyWith marksWith
+  unfolding withFrame heldWith
   with-frame f marks = let streams : streamsOf (c .k) (c .p) ≡ c .k + c .p = omega (arith, G .k-most, G .n-most) in cc (k-is, p-is, streams, add-one n)
 
   hands-out : (errors : ℕ) → errorsBy (c .generators) (c .counts) (c .checks) y (e .any) (e .marks) (c .k) (c .p) ≡ errors
       → handingOf (session c h y e n)
       ≡ record { answer = frame (correctedBy h errors (c .k) (c .m)); session = session c h (fedBackBy y (c .generators) errors (c .k) (c .p)) (erasedMoved e) n }
-  unfolding handingOf errorsOf
+  unfolding handingOf errorsOf errorsIn heldAfter
   hands-out errors q = cc (k-is, p-is, q)
 
 -- ---- the session before the frame of time t, and with it

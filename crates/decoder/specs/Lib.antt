@@ -1,4 +1,5 @@
 pub mod Registers
+pub mod Held
 pub mod Receive
 pub mod Claims
 pub mod Opening

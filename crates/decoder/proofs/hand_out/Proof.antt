@@ -1,13 +1,7 @@
 use borrow.Author.Needs.{needs}
-use Rattle.decoder.proofs.Composed.{handing-is}
+use Rattle.decoder.proofs.Composed.{handed-is}
 use Rattle.decoder.proofs.hand_out.Statement.{statement}
 use Rattle.decoder.proofs.hand_out.Tie as tie
-
-at-most-requires : tie.Need-at-most-requires
-at-most-requires c κs = search needs
-
-at-most-requires-2 : tie.Need-at-most-requires-2
-at-most-requires-2 c κs = search needs
 
 errors-requires : tie.Need-errors-requires
 errors-requires c κs = search needs
@@ -26,18 +20,14 @@ moved-on-requires-2 c κs = search needs
 
 returns : tie.Need-returns
 returns c =
-    let f = c .before .before .before .before .before .before .before in
-    let d = f .before .before in
-    let k = d .before .before .before .before .before .before .before .before .before .before in
-    handing-is _ (k .at-most .ensures) (d .before .before .before .before .before .before .before .before .before .at-most2 .ensures) (d .errors .ensures) (f .corrected .ensures)
-    (c .before .before .before .taken-out .ensures) (c .before .moved-on .ensures) (c .moved-on2 .ensures)
+    let f = c .before .before .before .before .before in
+    handed-is _ _ _ _ _ _ _ _ (f .before .before .errors .ensures) (f .corrected .ensures) (c .before .before .before .taken-out .ensures) (c .before .moved-on .ensures)
+    (c .moved-on2 .ensures)
 
 pub hand-out-spec : {M : Type 1} → statement M
 hand-out-spec =
     tie.close
     (tie.spec
-    at-most-requires
-    at-most-requires-2
     errors-requires
     corrected-requires
     taken-out-requires

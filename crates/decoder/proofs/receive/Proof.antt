@@ -1,42 +1,41 @@
-use mathlib.Core.Path.{sym, ap, _∙_}
+use mathlib.Core.Path.{sym, _∙_}
+use native.Mathlib.Omega.{arith}
 use borrow.Author.Needs.{needs}
-use Rattle.receiving.specs.Readings.{frameYieldOf}
-use Rattle.receiving.proofs.Outcomes.{room-for, is-taken, is-refused}
-use Rattle.decoder.specs.Receive.{firstCircuit}
+use Rattle.receiving.proofs.Outcomes.{room-for}
+use Rattle.decoder.proofs.Composed.{receives}
 use Rattle.decoder.proofs.receive.Statement.{statement}
 use Rattle.decoder.proofs.receive.Tie as tie
 
 admit-requires : tie.Need-admit-requires
 admit-requires c κs = search needs
 
-enum-known-admitted : tie.Need-enum-known-admitted
-enum-known-admitted c = search needs
+at-most-requires : tie.Need-at-most-requires
+at-most-requires c κs = search needs
 
-take-requires : tie.Need-take-requires
-take-requires c κs = room-for _ _ _ _ (sym (c .before .before .before .admit .ensures) ∙ ap frameYieldOf (c .before .admitted .given .1))
+at-most-requires-2 : tie.Need-at-most-requires-2
+at-most-requires-2 c κs = search needs
 
-enum-known-admitted-2 : tie.Need-enum-known-admitted-2
-enum-known-admitted-2 c = search needs
+stream-count-requires : tie.Need-stream-count-requires
+stream-count-requires c κs = search needs
 
-refused-requires : tie.Need-refused-requires
-refused-requires c κs = search needs
+settle-requires : tie.Need-settle-requires
+settle-requires c κs =
+    let d = c .before .before .before .before in
+    (omega (arith, d .before .before .at-most .ensures), omega (arith, d .before .at-most2 .ensures), λ f e y. room-for _ _ _ _ (sym (d .before .before .before .admit .ensures) ∙ y))
 
 returns : tie.Need-returns
 returns c =
-    is-taken firstCircuit _ _ _ (c .before .before .before .before .admit .ensures) _ _ (ap frameYieldOf (c .before .before .admitted .given .1)) (c .take .ensures)
-
-returns-2 : tie.Need-returns-2
-returns-2 c =
-    is-refused firstCircuit _ _ _ (c .before .before .before .before .admit .ensures) _ (ap frameYieldOf (c .before .before .admitted2 .given .1)) (c .refused .ensures)
+    let d = c .before .before .before .before in
+    let n = d .before .before .before .before .before in
+    receives _ _ _ (n .before .before .before .admit .ensures) (n .before .before .at-most .ensures) (n .before .at-most2 .ensures) (n .stream-count .ensures) (d .settle .ensures)
 
 pub receive-spec : {M : Type 1} → statement M
 receive-spec =
     tie.close
     (tie.spec
     admit-requires
-    enum-known-admitted
-    take-requires
-    enum-known-admitted-2
-    refused-requires
-    returns
-    returns-2)
+    at-most-requires
+    at-most-requires-2
+    stream-count-requires
+    settle-requires
+    returns)

@@ -1,30 +1,33 @@
-use mathlib.Core.Path.{sym, ap, _∙_}
 use borrow.Author.Needs.{needs}
-use Rattle.receiving.specs.Answers.{waiting}
-use Rattle.receiving.proofs.Outcomes.{first-wait, later-hand}
-use Rattle.decoder.specs.Receive.{handingOf, takenOf}
-use Rattle.decoder.specs.declared.Session.{Session}
+use Rattle.decoder.proofs.Composed.{taken-waits, taken-hands}
 use Rattle.decoder.proofs.take.Statement.{statement}
 use Rattle.decoder.proofs.take.Tie as tie
+
+at-most-requires : tie.Need-at-most-requires
+at-most-requires c κs = search needs
 
 with-frame-requires : tie.Need-with-frame-requires
 with-frame-requires c κs = search needs
 
-cast-if1 : tie.Need-cast-if1
-cast-if1 c = search needs
+add-count : tie.Need-add-count
+add-count c = search needs
 
 returns : tie.Need-returns
-unfolding takenOf
-returns c =
-    ap (λ (s : Session). record { answer = waiting; session = s }) (c .before .with-frame .ensures) ∙ sym (first-wait _ _ _ handingOf (c .if1 .taken))
+returns c = taken-waits _ _ _ _ _ _ _ _ _ _ _ (c .before .before .at-most .ensures) (c .before .with-frame .ensures) (c .if1 .taken)
 
 hand-out-requires : tie.Need-hand-out-requires
 hand-out-requires c κs = search needs
 
 returns-2 : tie.Need-returns-2
-unfolding takenOf
-returns-2 c =
-    c .hand-out .ensures ∙ ap handingOf (c .before .before .with-frame .ensures) ∙ sym (later-hand _ _ _ handingOf (c .before .if1 .left))
+returns-2 c = taken-hands _ _ _ _ _ _ _ _ _ _ _ (c .before .before .before .at-most .ensures) (c .before .before .with-frame .ensures) (c .before .if1 .left) (c .hand-out .ensures)
 
 pub take-spec : {M : Type 1} → statement M
-take-spec = tie.close (tie.spec with-frame-requires cast-if1 returns hand-out-requires returns-2)
+take-spec =
+    tie.close
+    (tie.spec
+    at-most-requires
+    with-frame-requires
+    add-count
+    returns
+    hand-out-requires
+    returns-2)
