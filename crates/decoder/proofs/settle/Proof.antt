@@ -1,5 +1,4 @@
 use mathlib.Core.Path.{sym, ap, _∙_}
-use native.Mathlib.Omega.{arith}
 use borrow.Author.Needs.{needs}
 use Rattle.receiving.specs.Readings.{frameYieldOf}
 use Rattle.decoder.specs.Held.{settledBy}
