@@ -8,3 +8,4 @@ pub mod ListingClauses
 pub mod RewritingClauses
 pub mod WriterClauses
 pub mod StandardClauses
+pub mod ErasedClauses

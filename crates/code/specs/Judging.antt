@@ -1,5 +1,6 @@
 -- Whether a whole check stands beside the earlier ones of its stream: document 01, "Refused because of the input", 8 and 9.
--- `mask j` is the check's mask of parity stream j, and `touched b s` is above zero if an earlier check of its stream touches the error (b, s).
+-- `mask j` is the check's mask of parity stream j, and `touched b s` is above zero if an earlier check of its stream touches the error (b, s). In the rule
+-- (`majority`, `Rule`) it is the digit (b, s) that is marked, as erased.
 -- Assumes nothing.
 use Prim.Native.Nat.{ℕ, suc, _+_, _*_}
 use mathlib.Core.Bool.{cond}
