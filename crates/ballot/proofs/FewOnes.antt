@@ -18,7 +18,7 @@ use Rattle.bits.proofs.Digits.{bit-le, bit-high}
 use Rattle.code.specs.Checks.{count, checkMask, touches, touchesBy, touchesInfo}
 use Rattle.code.specs.Guarantees.{Guarantees}
 use Rattle.code.specs.declared.Card.{Card}
-use Rattle.majority.specs.Voting.{checkBy, votesBy, majorityBy, decideBy}
+use Rattle.vote.specs.Voting.{checkBy, votesBy, majorityBy, decideBy}
 
 module _ (c : Card) (G : Guarantees c) where
   -- a parity error is touched by the checks that have its syndrome

@@ -17,7 +17,7 @@ use Rattle.bits.proofs.Cases.{last-or-below, cond-le}
 use Rattle.bits.proofs.Sums.{sum-same, sum-cong, sum-add, sum-more, sum-mono}
 use Rattle.bits.proofs.Digits.{bit-le, bit-and, bit-or, bit-of-zero, ones-sum, from-digits-lt, from-digits-same}
 use Rattle.bits.proofs.Words.{placed-fits, placed-more}
-use Rattle.majority.specs.Voting.{checkBy, votesBy, majorityBy, decideBy}
+use Rattle.vote.specs.Voting.{checkBy, votesBy, majorityBy, decideBy}
 use Rattle.ballot.specs.Ballot.{Joins, parities, votesSorted, decideSorted, Sorted, SortedStream}
 
 -- ---- what a union of checks has in common with a word

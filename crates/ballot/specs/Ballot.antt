@@ -11,7 +11,7 @@ use lib.Bits.{bitAnd}
 use lib.Dec.{ltb}
 use Rattle.bits.specs.Sums.{sumBelow}
 use Rattle.bits.specs.Digits.{fromDigits, dot}
-use Rattle.majority.specs.Voting.{votesBy}
+use Rattle.vote.specs.Voting.{votesBy}
 
 -- a check that may be added to a union of checks: it is of one syndrome at most, which the union does not have
 pub record Joins (mask alone : ℕ) : Type 0 where

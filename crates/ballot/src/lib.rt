@@ -6,7 +6,7 @@ ghost use Prim.Native.Nat.{_+_, _*_, _%_, _<_, _≤_};
 ghost use lib.ListN.{length};
 ghost use Rattle.bits.specs.Digits.{dot};
 ghost use Rattle.ballot.specs.Ballot.{Joins, parities, decideSorted, Sorted, SortedStream};
-use majority::more_than_half;
+use vote::more_than_half;
 
 // The checks of each information stream on one syndrome register, sorted.
 pub struct Ballot {

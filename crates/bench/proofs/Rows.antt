@@ -10,6 +10,7 @@ use Rattle.card.specs.Reading.{byteField, standingField, kField, nField, mapFie
 use Rattle.majority.specs.Rule.{syndrome, cleared, checkAt, voting, voters, votes, decide, decideFrame, decided, corrected, decoded}
 use Rattle.majority.proofs.Erased.{erased-rows}
 use Rattle.receiving.specs.Calls.{answersBy}
+use Rattle.receiving.proofs.LevelRows.{level-rows}
 use Rattle.outcomes.specs.Outcome.{refusedOf, givenOf, withRoom, underCard}
 use Rattle.outcomes.specs.Receiving.{receiveUnder, receiveOf}
 use Rattle.card.specs.Bench.{checks}
@@ -49,4 +50,5 @@ rows =
       other-n = refl;
       other-k = refl;
       erased = erased-rows;
+      levels = level-rows;
     }

@@ -16,6 +16,7 @@ use Rattle.majority.specs.Plain.{decoded}
 use Rattle.majority.specs.Rule as Rule
 use Rattle.receiving.specs.Answers.{waiting}
 use Rattle.receiving.specs.Calls.{answersBy}
+use Rattle.receiving.specs.LevelRows.{LevelRows}
 use Rattle.outcomes.specs.Receiving.{receiveOf}
 use Rattle.code.specs.Bench.{s}
 use Rattle.card.specs.Bench.{cardP, kStatedP, nStatedP, storedP, cardQ, cardR, cardT}
@@ -72,3 +73,5 @@ pub record Rows : Type 0 where
   pub other-k : readCard (3 ∷ 7 ∷ 2 ∷ 3 ∷ []) .outcome ≡ refused 1 4
   -- R-6: "a check that touches an erased digit other than its own, at a time not yet decided, doesn't vote"
   pub erased : ErasedRows Rule.decoded
+  -- R-7: "A level whose magnitude is below 0.25 is erased from now on; 0.25 and minus 0.25 themselves are digits."
+  pub levels : LevelRows

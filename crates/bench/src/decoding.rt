@@ -13,6 +13,7 @@ use receiving::Answer;
 pub(crate) fn cases() {
     sessions();
     levels::digits();
+    levels::band();
     mixed_sessions();
     levels::erasures();
     whole_bursts();

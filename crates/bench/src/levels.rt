@@ -1,4 +1,4 @@
-// The cases of readings: document 01, "Readings and bursts", and the refusal 12; document 02, R-6, erased digits.
+// The cases of readings: document 01, "Readings and bursts", and the refusal 12; document 02, R-6, erased digits, and R-7, the band around zero.
 use crate::decoding;
 use crate::lines;
 use crate::tables;
@@ -13,21 +13,30 @@ pub(crate) fn receive(s: Session, number: u8, readings: [Reading; 8]) -> Session
     received.session
 }
 
-// The level that a letter of a row stands for: one, half, zero, the smallest above zero, the largest, not a number, infinity. A capital is
-// minus it; a dash, as any other byte, is minus one.
-fn level(letter: u8) -> f32 {
+// The level that a small letter of a row, or a sign, stands for: one, half, a quarter, the next ones above and below a quarter, the largest
+// subnormal, the smallest above zero, zero, the largest, not a number, infinity. A dash, as any other byte, is minus one.
+fn small_letter(letter: u8) -> f32 {
     match letter {
         b'+' => 1.0,
         b'h' => 0.5,
-        b'H' => -0.5,
-        b'z' => 0.0,
-        b'Z' => -0.0,
+        b'q' => 0.25,
+        b'a' => 0.25000003,
+        b'b' => 0.24999999,
+        b'd' => 1.1754942e-38,
         b's' => 1.0e-45,
+        b'o' => 0.0,
         b'l' => 3.4028235e38,
         b'n' => 0.0f32 / 0.0f32,
         b'i' => 1.0f32 / 0.0f32,
-        b'I' => -(1.0f32 / 0.0f32),
         _ => -1.0,
+    }
+}
+
+// A capital is minus its small letter.
+fn level(letter: u8) -> f32 {
+    match letter {
+        b'A'..=b'Z' => -small_letter(letter - b'A' + b'a'),
+        _ => small_letter(letter),
     }
 }
 
@@ -74,22 +83,43 @@ pub(crate) fn row(fed: &[u8]) {
     lines::text(b"\n");
 }
 
-// With the digits d, 1 and 0 one of the two checks is 1, so that d is handed out. The third reading is the last of three streams.
+// With the digits d, 1 and 0 one of the two checks is 1, so that d is handed out, and 0 if it is erased. The third reading is the last of three
+// streams.
 pub(crate) fn digits() {
     tables::each(
         Kind::Levels,
         b"m 0 reads 0.5, 1, -1|h--;\
           m 0 reads -0.5, 1, -1|H--;\
-          m 0 reads zero, 1, -1|z--;\
-          m 0 reads minus zero, 1, -1|Z--;\
           m 0 reads erased, 1, -1|e--;\
-          m 0 reads the smallest level above zero, 1, -1|s--;\
           m 0 reads the largest level, 1, -1|l--;\
           m 0 reads NaN, 1, -1|n--;\
           m 0 reads infinity, 1, -1|i--;\
           m 0 reads minus infinity, 1, -1|I--;\
           m 0 reads 0.5, 1, NaN|hn-;\
           m 0 reads 0.5, 1, -1, then NaN|h-n;",
+    );
+}
+
+// The second frame has the level as its information digit, and 1 after it. The first three rows tell apart what it may be: erased, 1 and 0. Of the
+// others those with eight digits are the neighbours of 0.25 and -0.25, the last four the least and the largest subnormal.
+pub(crate) fn band() {
+    tables::each(
+        Kind::Receiving,
+        b"P receives 1, erased and 1, 0|P\x01e\x00;\
+          P receives 1, 3, 0|P\x01\x03\x00;\
+          P receives 1, 2, 0|P\x01\x02\x00;\
+          P receives 1, 0.25 and 1, 0|P\x01q\x00;\
+          P receives 1, 0.24999999 and 1, 0|P\x01b\x00;\
+          P receives 1, 0.25000003 and 1, 0|P\x01a\x00;\
+          P receives 1, -0.25 and 1, 0|P\x01Q\x00;\
+          P receives 1, -0.24999999 and 1, 0|P\x01B\x00;\
+          P receives 1, -0.25000003 and 1, 0|P\x01A\x00;\
+          P receives 1, 0.0 and 1, 0|P\x01o\x00;\
+          P receives 1, -0.0 and 1, 0|P\x01O\x00;\
+          P receives 1, 1.0e-45 and 1, 0|P\x01s\x00;\
+          P receives 1, -1.0e-45 and 1, 0|P\x01S\x00;\
+          P receives 1, 1.1754942e-38 and 1, 0|P\x01d\x00;\
+          P receives 1, -1.1754942e-38 and 1, 0|P\x01D\x00;",
     );
 }
 

@@ -24,8 +24,8 @@ use Rattle.code.specs.declared.Card.{Card}
 use Rattle.majority.specs.Rule.{cleared, corrected}
 use Rattle.majority.specs.Rule as Rule
 use Rattle.majority.specs.Plain.{decideFrame, decided}
-use Rattle.majority.specs.Voting.{decideBy}
-use Rattle.majority.proofs.Voting.{decide-lt, decide-lt-k, decide-is}
+use Rattle.vote.specs.Voting.{decideBy}
+use Rattle.vote.proofs.Voting.{decide-lt, decide-lt-k, decide-is}
 use Rattle.majority.proofs.Plain.{decided-length, decided-at}
 use Rattle.majority.proofs.Feedback.{cleared-fed}
 use Rattle.burst.specs.Registers.{Registers, registers, HasSums, takenOut, Corrected, correctedBy}

@@ -23,9 +23,9 @@ use Rattle.code.specs.Checks.{count}
 use Rattle.code.specs.Guarantees.{Guarantees}
 use Rattle.code.specs.declared.Card.{Card}
 use Rattle.majority.specs.Plain.{decoded}
-use Rattle.majority.specs.Voting.{decideBy}
+use Rattle.vote.specs.Voting.{decideBy}
 use Rattle.ballot.specs.Ballot.{votesSorted, decideSorted}
-use Rattle.majority.proofs.Voting.{decide-lt-k, decide-none}
+use Rattle.vote.proofs.Voting.{decide-lt-k, decide-none}
 use Rattle.ballot.proofs.FewOnes.{decide-few}
 use Rattle.burst.specs.Parts.{cardFrom, EveryCard}
 use Rattle.burst.specs.Held.{tables, Handing, AllHandedOut}

@@ -9,7 +9,7 @@ use lib.ListN.{length, getD, drop, replicate}
 use lib.Bits.{bitXor}
 use Rattle.bits.specs.Sums.{xorBelow, upTo}
 use Rattle.bits.specs.Digits.{bit, shiftUp}
-use Rattle.majority.specs.Voting.{decideBy}
+use Rattle.vote.specs.Voting.{decideBy}
 
 -- the registers of the parity streams: the parity digits to come, and the syndromes held
 pub record Registers : Type 0 where

@@ -8,7 +8,7 @@ ghost use Prim.Native.Nat.{ℕ, _+_, _*_, _/_, _%_, _^_, _<_, _≤_};
 ghost use lib.Bits.{bitXor};
 ghost use lib.ListN.{length, getD, replicate};
 ghost use Rattle.code.specs.Guarantees.{Guarantees};
-ghost use Rattle.majority.specs.Voting.{decideBy};
+ghost use Rattle.vote.specs.Voting.{decideBy};
 ghost use Rattle.ballot.specs.Ballot.{Sorted};
 ghost use Rattle.burst.specs.Parts.{cardFrom};
 ghost use Rattle.burst.specs.Registers.{AtLeast, AllWithin, inOne, putOf, HasPuts};

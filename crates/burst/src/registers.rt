@@ -144,7 +144,7 @@ pub(crate) fn correct<'a>(
     if held == 0 {
         return 0;
     }
-    let errors = majority::decide(counts, checks, syndromes, k, 8);
+    let errors = vote::decide(counts, checks, syndromes, k, 8);
     if errors != 0 {
         take_out(syndromes, sums, p, errors);
     }

@@ -13,8 +13,8 @@ use Rattle.card.specs.Reading.{readCard}
 use Rattle.card.specs.declared.CardRule.the-variants.{Present}
 use Rattle.card.proofs.RefusedCard.{refused-card}
 use Rattle.receiving.specs.Answers.{Given, waiting, frame, answerOf, Reply}
-use Rattle.receiving.specs.Calls.{numberIn, replyOf, answers, sessionAfter}
-use Rattle.receiving.specs.Example.{one, ReceivesP, ReceivesT}
+use Rattle.receiving.specs.Calls.{numberIn, replyBy, answersReadBy, sessionReadBy}
+use Rattle.receiving.specs.Example.{one, ReceivesP, ReceivesFaintP, ReceivesT}
 use Rattle.receiving.specs.Opening.{countedAt, Opens}
 use Rattle.receiving.specs.Receive.{Circuit, openOf, refusedOf, receiveByteOf, receiveReadingsOf}
 use Rattle.decoder.specs.Claims.{Claims}
@@ -24,7 +24,7 @@ use Rattle.decoder.specs.Receive.{firstCircuit, linkFigureOf}
 use Rattle.decoder.specs.declared.Opened.{Opened}
 use Rattle.decoder.specs.declared.Received.{Received}
 use Rattle.decoder.specs.declared.Session.{Session}
-use Rattle.decoder.proofs.Example.{receives-P, figure-P, receives-T}
+use Rattle.decoder.proofs.Example.{receives-P, receives-faint-P, figure-P, receives-T}
 use Rattle.digit_decoder.specs.Claims as digit-claims
 use Rattle.digit_decoder.specs.Example.{AnswersOfP}
 use Rattle.digit_decoder.specs.Opening as digit-opening
@@ -72,13 +72,16 @@ module _ (r : Opened) (promise : OpenPromise cardP r) where
   pub receives-as-P : ReceivesP firstCircuit (r .session)
   receives-as-P = receives-P (r .session) (own firstCircuit Claims cardP P read-P _ _ promise) (claimed firstCircuit Claims cardP P read-P _ _ promise)
 
+  pub receives-faint-as-P : ReceivesFaintP firstCircuit (r .session)
+  receives-faint-as-P = receives-faint-P (r .session) (own firstCircuit Claims cardP P read-P _ _ promise) (claimed firstCircuit Claims cardP P read-P _ _ promise)
+
   figure-as-P : FigureOfP (r .session)
   figure-as-P = figure-P (r .session) (own firstCircuit Claims cardP P read-P _ _ promise) (claimed firstCircuit Claims cardP P read-P _ _ promise)
 
   -- the link figure after a byte and readings, each a call of its own
   pub figure-after : (first second : Received) (f : ℕ) → receivedOf first ≡ receiveByteOf firstCircuit (r .session) 7 3
       → receivedOf second ≡ receiveReadingsOf firstCircuit (first .session) 7 (replicate 8 one) → f ≡ linkFigureOf (second .session) → f ≡ 1
-  unfolding sessionAfter replyOf
+  unfolding sessionReadBy replyBy
   figure-after first second f a b e =
       e ∙ ap (λ (x : Reply Session). linkFigureOf (x .session)) b
       ∙ ap (λ (x : Reply Session). linkFigureOf (receiveReadingsOf firstCircuit (x .session) 7 (replicate 8 one) .session)) a
@@ -100,6 +103,10 @@ module _ (r : digit-opened.Opened) (promise : digit-opening.OpenPromise cardP r)
   receives-as-P-by-digits =
       by-digits.receives-P (r .session) (own secondCircuit digit-claims.Claims cardP P read-P _ _ promise) (claimed secondCircuit digit-claims.Claims cardP P read-P _ _ promise)
 
+  pub receives-faint-as-P-by-digits : ReceivesFaintP secondCircuit (r .session)
+  receives-faint-as-P-by-digits =
+      by-digits.receives-faint-P (r .session) (own secondCircuit digit-claims.Claims cardP P read-P _ _ promise) (claimed secondCircuit digit-claims.Claims cardP P read-P _ _ promise)
+
   pub answers-as-P : AnswersOfP (r .session)
   answers-as-P =
       by-digits.answers-as-P (r .session) (own secondCircuit digit-claims.Claims cardP P read-P _ _ promise) (claimed secondCircuit digit-claims.Claims cardP P read-P _ _ promise)
@@ -107,7 +114,7 @@ module _ (r : digit-opened.Opened) (promise : digit-opening.OpenPromise cardP r)
   -- the answer to readings after a byte, each a call of its own
   pub answer-after : (first second : digit-received.Received) → digit-opening.receivedOf first ≡ receiveByteOf secondCircuit (r .session) 7 3
       → digit-opening.receivedOf second ≡ receiveReadingsOf secondCircuit (first .session) 7 (replicate 8 one) → answerOf (second .answer) ≡ frame 1
-  unfolding answers replyOf
+  unfolding answersReadBy replyBy
   answer-after first second a b =
       ap (λ (x : Reply digit-session.Session). x .answer) b
       ∙ ap (λ (x : Reply digit-session.Session). receiveReadingsOf secondCircuit (x .session) 7 (replicate 8 one) .answer) a

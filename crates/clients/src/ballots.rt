@@ -2,7 +2,7 @@
 ghost use mathlib.Core.Path.{_≡_};
 ghost use mathlib.Core.List.{_∷_};
 ghost use lib.ListN.{replicate};
-ghost use Rattle.majority.specs.Voting.{decideBy};
+ghost use Rattle.vote.specs.Voting.{decideBy};
 
 // Sorted and decided, whatever the tables: as the vote on registers decides that has the word as its first one.
 pub fn sorted_checks_decide<'a>(

@@ -7,7 +7,7 @@ ghost use Rattle.digit_decoder.specs.Example.{AnswersOfP};
 ghost use Rattle.digit_decoder.specs.Receive.{secondCircuit};
 ghost use Rattle.receiving.specs.Answers.{answerOf};
 ghost use Rattle.receiving.specs.Answers as received;
-ghost use Rattle.receiving.specs.Example.{ReceivesP, ReceivesT};
+ghost use Rattle.receiving.specs.Example.{ReceivesP, ReceivesFaintP, ReceivesT};
 ghost use Rattle.encoder.specs.Example.{SendsP};
 ghost use Rattle.encoder.specs.Outcome.{published, frame};
 ghost use Rattle.clients.specs.Closed.{ReceivesNothing, SendsNothing};
@@ -15,9 +15,9 @@ use crate::cards::P;
 use crate::cards::T;
 use receiving::Reading;
 
-// A receiver of P: the third term, the rule and the answers, for lists of calls.
+// A receiver of P: the third term, the rule and the answers, for lists of calls, and that they are those of before where no level lies close to zero.
 pub fn p_receives() -> decoder::Opened
-    ensures { λ r. ⌜ (outcomeOf (r .verdict) ≡ accepted) × ReceivesP firstCircuit (r .session) ⌝ }
+    ensures { λ r. ⌜ (outcomeOf (r .verdict) ≡ accepted) × ReceivesP firstCircuit (r .session) × ReceivesFaintP firstCircuit (r .session) ⌝ }
 {
     decoder::open(&P)
 }
@@ -70,7 +70,7 @@ pub fn p_tail() -> encoder::Sent
 
 // A receiver of P by the second circuit: the same for its rule, and the first circuit's answers call by call.
 pub fn p_receives_by_digits() -> digit_decoder::Opened
-    ensures { λ r. ⌜ (outcomeOf (r .verdict) ≡ accepted) × ReceivesP secondCircuit (r .session) × AnswersOfP (r .session) ⌝ }
+    ensures { λ r. ⌜ (outcomeOf (r .verdict) ≡ accepted) × ReceivesP secondCircuit (r .session) × ReceivesFaintP secondCircuit (r .session) × AnswersOfP (r .session) ⌝ }
 {
     digit_decoder::open(&P)
 }

@@ -13,6 +13,7 @@ ghost use Rattle.majority.specs.Rule.{decoded, figureBy};
 ghost use Rattle.majority.specs.SecondCircuit.{decodedByDigits};
 ghost use Rattle.outcomes.specs.Admissions.{Admissions};
 ghost use Rattle.outcomes.specs.Claims.{SentAs};
+ghost use Rattle.receiving.specs.LevelRows.{LevelRows};
 ghost use Rattle.standard.specs.Edges.{TermEdges};
 
 // The third term's.
@@ -28,6 +29,11 @@ pub fn erased_digits_leave_the_vote()
 // Where nothing is erased the rule and the condition are the former ones, for every accepted card.
 pub fn nothing_erased_is_the_former_rule()
     ensures { λ _. ⌜ ((c : Card) → Guarantees c → (frames erased : List ℕ) (u i : ℕ) → i < c .k → NoneErased c erased u → Former c frames erased u i) ⌝ }
+{}
+
+// What levels yield at the edges of the band around zero, and that outside it every reading yields what it did.
+pub fn levels_are_read()
+    ensures { λ _. ⌜ LevelRows ⌝ }
 {}
 
 // The rule's by which the standard cards were made.

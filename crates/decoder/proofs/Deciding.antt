@@ -7,8 +7,8 @@ use mathlib.Core.List.{List}
 use lib.ListN.{getD}
 use borrow.Author.Tests.{eq-eqb, ne-eqb}
 use Rattle.bits.proofs.Cases.{same-or-not}
-use Rattle.majority.specs.Voting.{decideBy}
-use Rattle.majority.proofs.Voting.{decide-none}
+use Rattle.vote.specs.Voting.{decideBy}
+use Rattle.vote.proofs.Voting.{decide-none}
 use Rattle.voters.specs.Voters.{decideVotingBy}
 use Rattle.voters.proofs.Counting.{decide-voting-none}
 use Rattle.decoder.specs.Registers.{errorsBy}

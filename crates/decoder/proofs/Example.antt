@@ -1,7 +1,7 @@
 -- The claims of a session applied to cards P and T. What the calls take is computed, and the answers to P's; what the
 -- clauses give is not.
 use Prim.Native.Nat.{ℕ}
-use mathlib.Core.Path.{_≡_, refl, ap, ap₂, _∙_}
+use mathlib.Core.Path.{_≡_, refl, sym, ap, ap₂, _∙_, subst}
 use mathlib.Core.List.{List, [], _∷_}
 use Rattle.bits.specs.Sums.{sumBelow, xorBelow, upTo, back, grown}
 use Rattle.bits.specs.Digits.{bit, fromDigits, dot, shiftUp}
@@ -10,15 +10,17 @@ use Rattle.code.specs.Code.{generator, digit, parityAt}
 use Rattle.code.specs.Checks.{count, checkMask, touchesInfo, touchesBy, besides}
 use Rattle.code.specs.Judging.{clashes, judge}
 use Rattle.code.specs.Registers.{generatorMask, shiftIn, historyBy, parityBy, withDigits, movedOn}
-use Rattle.majority.specs.Voting.{checkBy, votesBy, majorityBy, decideBy}
+use Rattle.vote.specs.Voting.{checkBy, votesBy, majorityBy, decideBy}
 use Rattle.majority.specs.Rule.{syndrome, cleared, checkAt, voting, voters, votes, decide, decideFrame, decided, corrected, decoded, figureBy}
 use Rattle.receiving.specs.Answers.{waiting, frame, refused}
-use Rattle.receiving.specs.Readings.{digitOfLevel, digitOf, digitIn, markIn, faultIn, faults, frameRead, erasedRead, readByteOf, readFrameOf}
-use Rattle.receiving.specs.Receive.{openOf, inTurn, admitOf, refusedOf, settledOf, receiveOf, receiveByteOf, receiveReadingsOf}
-use Rattle.receiving.specs.Calls.{Call, numberIn, frameIn, erasedIn, readable, taken, takenParts, takenFrames, takenErased, answers, replyOf, answersBy}
-use Rattle.receiving.specs.Example.{callsP-first, callsP, callsP-two-errors, callsP-lost, ReceivesP, callsT, callsT-lost, ReceivesT}
+use Rattle.receiving.specs.Readings.{inBand, digitOfLevel, digitOf, digitIn, markIn, faultIn, faultsBy, frameReadBy, erasedReadBy, readByteOf, readFrameBy}
+use Rattle.receiving.specs.Receive.{openOf, inTurn, admitOf, refusedOf, settledOf, receiveOf, receiveByteOf, receiveReadingsBy}
+use Rattle.receiving.specs.Calls.{Call, numberIn, frameIn, erasedIn, readable, taken, takenParts, takenFrames, takenErased, answers, answersReadBy, sessionReadBy, replyBy, answersBy}
+use Rattle.receiving.specs.Former.{formerDigitOfLevel, formerDigitOf, bandIn, levelsInBand}
+use Rattle.receiving.specs.Claims.{ByRule}
+use Rattle.receiving.specs.Example.{callsP-first, callsP, callsP-two-errors, callsP-lost, ReceivesP, ReceivesFaintP, callsT, callsT-lost, ReceivesT}
 use Rattle.receiving.proofs.Example as example
-use Rattle.receiving.proofs.Example.{Takes}
+use Rattle.receiving.proofs.Example.{Takes, TakesFaint}
 use Rattle.orthogonal.specs.Pass.{holds}
 use Rattle.voters.specs.Voters.{masksAt, votingBy, votersBy, onesBy, majorityVotingBy, decideVotingBy}
 use Rattle.voters.specs.ErasedDigits.{erasedWith, erasedMoved}
@@ -36,12 +38,24 @@ taken-by : Takes firstCircuit (openOf firstCircuit P) callsP (3 ∷ 3 ∷ 3 ∷ 
     × Takes firstCircuit (openOf firstCircuit P) callsP-lost (0 ∷ 1 ∷ 0 ∷ []) (3 ∷ 0 ∷ 0 ∷ [])
     × Takes firstCircuit (openOf firstCircuit T) callsT (3 ∷ 0 ∷ 0 ∷ []) (0 ∷ 0 ∷ 0 ∷ [])
     × Takes firstCircuit (openOf firstCircuit T) callsT-lost (1 ∷ 4 ∷ 4 ∷ []) (2 ∷ 0 ∷ 0 ∷ [])
-unfolding sumBelow bit fromDigits digitOfLevel digitOf digitIn markIn faultIn faults frameRead erasedRead readByteOf readFrameOf openOf withFrame handingOf takenOf inTurn admitOf refusedOf settledOf receiveOf receiveByteOf receiveReadingsOf numberIn frameIn erasedIn readable taken takenParts replyOf
+unfolding sumBelow bit fromDigits inBand digitOfLevel digitOf digitIn markIn faultIn faultsBy frameReadBy erasedReadBy readByteOf readFrameBy openOf withFrame handingOf takenOf inTurn admitOf refusedOf settledOf receiveOf receiveByteOf receiveReadingsBy numberIn frameIn erasedIn readable taken takenParts replyBy
 taken-by = ((refl, refl), (refl, refl), (refl, refl), (refl, refl), (refl, refl), (refl, refl))
+
+taken-at : TakesFaint firstCircuit (openOf firstCircuit P)
+unfolding sumBelow bit fromDigits inBand digitOfLevel digitOf digitIn markIn faultIn faultsBy frameReadBy erasedReadBy readByteOf readFrameBy openOf withFrame handingOf takenOf inTurn admitOf refusedOf settledOf receiveOf receiveByteOf receiveReadingsBy numberIn frameIn erasedIn readable taken takenParts replyBy formerDigitOfLevel formerDigitOf bandIn levelsInBand answersReadBy sessionReadBy
+taken-at =
+    record {
+      quarter-taken = (refl, refl);
+      quarter-outside = refl;
+      quarter-received = refl;
+      faint-taken = (refl, refl);
+      faint-within = refl;
+      alike-before = refl;
+    }
 
 -- the answers, call by call: the second circuit's session is to give the same
 pub answers-P : answers firstCircuit (openOf firstCircuit P) callsP ≡ waiting ∷ frame 1 ∷ refused 14 ∷ refused 11 ∷ frame 0 ∷ refused 14 ∷ refused 12 ∷ frame 1 ∷ []
-unfolding sumBelow xorBelow upTo back bit fromDigits dot shiftUp generator touchesInfo touchesBy besides clashes judge generatorMask shiftIn historyBy parityBy withDigits movedOn checkBy votesBy majorityBy decideBy holds masksAt votingBy votersBy onesBy majorityVotingBy decideVotingBy erasedWith erasedMoved syndromeBy withSyndromes errorsBy correctedDigit correctedBy feedbackBy clearedBy takenOutBy fedBackBy heldWith errorsIn heldAfter errorsOf digitOfLevel digitOf digitIn markIn faultIn faults frameRead erasedRead readByteOf readFrameOf openOf withFrame handingOf takenOf inTurn admitOf refusedOf settledOf receiveOf receiveByteOf receiveReadingsOf replyOf answers
+unfolding sumBelow xorBelow upTo back bit fromDigits dot shiftUp generator touchesInfo touchesBy besides clashes judge generatorMask shiftIn historyBy parityBy withDigits movedOn checkBy votesBy majorityBy decideBy holds masksAt votingBy votersBy onesBy majorityVotingBy decideVotingBy erasedWith erasedMoved syndromeBy withSyndromes errorsBy correctedDigit correctedBy feedbackBy clearedBy takenOutBy fedBackBy heldWith errorsIn heldAfter errorsOf inBand digitOfLevel digitOf digitIn markIn faultIn faultsBy frameReadBy erasedReadBy readByteOf readFrameBy openOf withFrame handingOf takenOf inTurn admitOf refusedOf settledOf receiveOf receiveByteOf receiveReadingsBy replyBy answersReadBy
 answers-P = refl
 
 takes : {s t : Session} → s ≡ t → (calls : List Call) {frames erased : List ℕ} → Takes firstCircuit t calls frames erased → Takes firstCircuit s calls frames erased
@@ -53,6 +67,12 @@ module _ (s : Session) (own : s ≡ openOf firstCircuit P) (claims : Claims P s)
   receives-P =
       example.receives-P firstCircuit decoded s (claims .by-rule) (takes own callsP (taken-by .0)) (takes own callsP-two-errors (taken-by .2))
       (takes own callsP-lost (taken-by .3)) refl refl refl
+
+  pub receives-faint-P : ReceivesFaintP firstCircuit s
+  unfolding sumBelow upTo back grown bit fromDigits generator digit parityAt count checkMask touchesInfo touchesBy besides clashes syndrome cleared checkAt voting voters votes decide decideFrame decided corrected decoded
+  receives-faint-P =
+      let by-rule = subst (ByRule firstCircuit decoded P) own (claims .by-rule) in
+      subst (ReceivesFaintP firstCircuit) (sym own) (example.receives-faint-P firstCircuit decoded (openOf firstCircuit P) by-rule taken-at refl refl)
 
   pub figure-P : FigureOfP s
   unfolding sumBelow upTo back grown bit fromDigits generator digit parityAt count checkMask touchesInfo touchesBy besides clashes syndrome cleared checkAt voting voters votes decide decideFrame decided figureBy

@@ -28,7 +28,7 @@ use Rattle.voters.proofs.ErasedDigits.{ErasedAt, none-erased, marks-held}
 use Rattle.voters.proofs.Voters.{decide-voting-is}
 use Rattle.decoder.specs.Registers.{syndromeBy, withSyndromes, errorsBy, correctedDigit, correctedBy, feedbackBy, clearedBy, takenOutBy, fedBackBy}
 use Rattle.receiving.specs.Receive.{placeOf}
-use Rattle.majority.proofs.Voting.{decide-unerased}
+use Rattle.vote.proofs.Voting.{decide-unerased}
 use Rattle.majority.proofs.Streams.{decided-length, decided-at}
 use Rattle.majority.proofs.Feedback.{syndrome-lt, cleared-new, cleared-fed}
 use Rattle.decoder.proofs.Deciding.{errors-quiet, errors-marked}

@@ -12,7 +12,7 @@ use lib.Dec.{eqb}
 use Rattle.bits.specs.Sums.{sumBelow, xorBelow, upTo}
 use Rattle.bits.specs.Digits.{bit, fromDigits, shiftUp}
 use Rattle.code.specs.Registers.{generatorMask, parityBy, movedOn}
-use Rattle.majority.specs.Voting.{decideBy}
+use Rattle.vote.specs.Voting.{decideBy}
 use Rattle.voters.specs.Voters.{decideVotingBy}
 
 -- the syndrome of parity stream j for a frame that the history registers h have already

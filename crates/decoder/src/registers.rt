@@ -68,7 +68,7 @@ pub(crate) fn errors<'a>(
         return 0;
     }
     if any == 0 {
-        return majority::decide(counts, checks, held, k, p);
+        return vote::decide(counts, checks, held, k, p);
     }
     voters::decide(generators, counts, checks, held, marks, k, p)
 }

@@ -1,7 +1,7 @@
 -- The claims of a session applied to cards P and T. What the calls take is computed; what they come to is not, but for the answers of the first circuit's
 -- session, with which this one's agree.
 use Prim.Native.Nat.{ℕ}
-use mathlib.Core.Path.{_≡_, refl, ap, _∙_}
+use mathlib.Core.Path.{_≡_, refl, sym, ap, _∙_, subst}
 use mathlib.Core.List.{List, [], _∷_}
 use Rattle.bits.specs.Sums.{sumBelow, upTo, back, grown}
 use Rattle.bits.specs.Digits.{bit, fromDigits}
@@ -11,12 +11,14 @@ use Rattle.code.specs.Checks.{count, checkMask, touchesInfo, touchesBy, besides
 use Rattle.code.specs.Judging.{clashes}
 use Rattle.majority.specs.Rule.{voting, voters}
 use Rattle.majority.specs.SecondCircuit.{entering, vote, votesForOne, decideDigit, decideDigits, decidedDigits, decodedByDigits}
-use Rattle.receiving.specs.Readings.{digitOfLevel, digitOf, digitIn, markIn, faultIn, faults, frameRead, erasedRead, readByteOf, readFrameOf}
-use Rattle.receiving.specs.Receive.{openOf, inTurn, admitOf, refusedOf, settledOf, receiveOf, receiveByteOf, receiveReadingsOf}
-use Rattle.receiving.specs.Calls.{Call, numberIn, frameIn, erasedIn, readable, taken, takenParts, takenFrames, takenErased, replyOf, answersBy}
-use Rattle.receiving.specs.Example.{callsP, callsP-two-errors, callsP-lost, ReceivesP, callsT, callsT-lost, ReceivesT}
+use Rattle.receiving.specs.Readings.{inBand, digitOfLevel, digitOf, digitIn, markIn, faultIn, faultsBy, frameReadBy, erasedReadBy, readByteOf, readFrameBy}
+use Rattle.receiving.specs.Receive.{openOf, inTurn, admitOf, refusedOf, settledOf, receiveOf, receiveByteOf, receiveReadingsBy}
+use Rattle.receiving.specs.Calls.{Call, numberIn, frameIn, erasedIn, readable, taken, takenParts, takenFrames, takenErased, answersReadBy, sessionReadBy, replyBy, answersBy}
+use Rattle.receiving.specs.Former.{formerDigitOfLevel, formerDigitOf, bandIn, levelsInBand}
+use Rattle.receiving.specs.Claims.{ByRule}
+use Rattle.receiving.specs.Example.{callsP, callsP-two-errors, callsP-lost, ReceivesP, ReceivesFaintP, callsT, callsT-lost, ReceivesT}
 use Rattle.receiving.proofs.Example as example
-use Rattle.receiving.proofs.Example.{Takes}
+use Rattle.receiving.proofs.Example.{Takes, TakesFaint}
 use Rattle.decoder.proofs.Example.{answers-P}
 use Rattle.digit_decoder.specs.Receive.{withFrame, handingOf, takenOf, secondCircuit}
 use Rattle.digit_decoder.specs.Claims.{Claims}
@@ -29,8 +31,20 @@ taken-by : Takes secondCircuit (openOf secondCircuit P) callsP (3 ∷ 3 ∷ 3 �
     × Takes secondCircuit (openOf secondCircuit P) callsP-lost (0 ∷ 1 ∷ 0 ∷ []) (3 ∷ 0 ∷ 0 ∷ [])
     × Takes secondCircuit (openOf secondCircuit T) callsT (3 ∷ 0 ∷ 0 ∷ []) (0 ∷ 0 ∷ 0 ∷ [])
     × Takes secondCircuit (openOf secondCircuit T) callsT-lost (1 ∷ 4 ∷ 4 ∷ []) (2 ∷ 0 ∷ 0 ∷ [])
-unfolding sumBelow bit fromDigits digitOfLevel digitOf digitIn markIn faultIn faults frameRead erasedRead readByteOf readFrameOf openOf withFrame handingOf takenOf inTurn admitOf refusedOf settledOf receiveOf receiveByteOf receiveReadingsOf numberIn frameIn erasedIn readable taken takenParts replyOf
+unfolding sumBelow bit fromDigits inBand digitOfLevel digitOf digitIn markIn faultIn faultsBy frameReadBy erasedReadBy readByteOf readFrameBy openOf withFrame handingOf takenOf inTurn admitOf refusedOf settledOf receiveOf receiveByteOf receiveReadingsBy numberIn frameIn erasedIn readable taken takenParts replyBy
 taken-by = ((refl, refl), (refl, refl), (refl, refl), (refl, refl), (refl, refl))
+
+taken-at : TakesFaint secondCircuit (openOf secondCircuit P)
+unfolding sumBelow bit fromDigits inBand digitOfLevel digitOf digitIn markIn faultIn faultsBy frameReadBy erasedReadBy readByteOf readFrameBy openOf withFrame handingOf takenOf inTurn admitOf refusedOf settledOf receiveOf receiveByteOf receiveReadingsBy numberIn frameIn erasedIn readable taken takenParts replyBy formerDigitOfLevel formerDigitOf bandIn levelsInBand answersReadBy sessionReadBy
+taken-at =
+    record {
+      quarter-taken = (refl, refl);
+      quarter-outside = refl;
+      quarter-received = refl;
+      faint-taken = (refl, refl);
+      faint-within = refl;
+      alike-before = refl;
+    }
 
 takes : {s t : Session} → s ≡ t → (calls : List Call) {frames erased : List ℕ} → Takes secondCircuit t calls frames erased → Takes secondCircuit s calls frames erased
 takes own calls e = (ap (λ (s : Session). takenFrames secondCircuit s calls) own ∙ e .0, ap (λ (s : Session). takenErased secondCircuit s calls) own ∙ e .1)
@@ -41,6 +55,12 @@ module _ (s : Session) (own : s ≡ openOf secondCircuit P) (claims : Claims P s
   receives-P =
       example.receives-P secondCircuit decodedByDigits s (claims .by-rule) (takes own callsP (taken-by .0)) (takes own callsP-two-errors (taken-by .1))
       (takes own callsP-lost (taken-by .2)) refl refl refl
+
+  pub receives-faint-P : ReceivesFaintP secondCircuit s
+  unfolding sumBelow upTo back grown bit fromDigits generator digit count checkMask touchesInfo touchesBy besides clashes voting voters entering vote votesForOne decideDigit decideDigits decidedDigits decodedByDigits
+  receives-faint-P =
+      let by-rule = subst (ByRule secondCircuit decodedByDigits P) own (claims .by-rule) in
+      subst (ReceivesFaintP secondCircuit) (sym own) (example.receives-faint-P secondCircuit decodedByDigits (openOf secondCircuit P) by-rule taken-at refl refl)
 
   -- every call is answered as the first circuit's session answers it
   pub answers-as-P : AnswersOfP s

@@ -21,6 +21,7 @@ use Rattle.receiving.specs.Answers.{waiting, frame, Reply}
 use Rattle.receiving.specs.Readings.{streamsOf}
 use Rattle.receiving.specs.Receive.{placeOf, openOf}
 use Rattle.receiving.specs.Calls.{Call, takenFrames, takenErased, answers, answersBy}
+use Rattle.receiving.proofs.Outcomes.{turn-keeps}
 use Rattle.receiving.proofs.Follow.{Follows, agree}
 use Rattle.receiving.proofs.Turns.{InTurn, in-turn}
 use Rattle.receiving.proofs.ByRule.{follows-rule}
@@ -54,6 +55,11 @@ module _ (c : Card) (G : Guarantees c) (r d : List ℕ) (e : Erased) (n : ℕ) w
       let k-is : min (c .k) 4 ≡ c .k = omega (arith, G .k-most) in
       let p-is : min (c .p) 8 ≡ c .p = omega (arith, G .n-most) in
       cc (k-is, p-is, q)
+
+-- the card stays
+keeps : (s : Session) (f e : ℕ) → takenOf s f e .session .card ≡ s .card
+unfolding takenOf withFrame handingOf
+keeps s f e = turn-keeps (s .received) (s .card .m) (withFrame s f e) handingOf (λ (s : Session). s .card) refl
 
 -- ---- the session before the frame of time t, and with it
 pub record Before (c : Card) (G : Guarantees c) (frames erased : List ℕ) (t : ℕ) (s : Session) : Type 0 where
@@ -184,6 +190,6 @@ pub claims-of : (c : Card) → Guarantees c → Claims c (openOf secondCircuit c
 claims-of c G =
     record {
       by-rule = follows-rule secondCircuit decodedByDigits c G (openOf secondCircuit c) (handed-length c G) (follows c G) (start c G)
-          (λ info frames erased small whole few. circuits-agree c G frames erased ∙ decoded-as-sent c G info frames erased small whole few);
+          (λ info frames erased small whole few. circuits-agree c G frames erased ∙ decoded-as-sent c G info frames erased small whole few) keeps;
       answers-agree = λ calls. let h = agreed c G calls in cc;
     }

@@ -16,7 +16,7 @@ use Rattle.bits.specs.Digits.{bit, dot, shiftUp}
 use Rattle.bits.proofs.Back.{back-in, back-out, back-suc}
 use Rattle.bits.proofs.Cases.{le-or-lt, last-or-below}
 use Rattle.bits.proofs.Digits.{bit-lt, bit-suc, bit-shift, bit-high, bit-xor, bit-xors, bit-masks, bit-times, place-same, place-other, from-digits-same}
-use Rattle.bits.proofs.Held.{held, held-in, moved}
+use Rattle.bits.proofs.Held.{held, held-in}
 use Rattle.bits.proofs.Lists.{part-at}
 use Rattle.bits.proofs.Sums.{sum-same, sum-cong, sum-mod, sum-cut, sum-one-more, mul-mod-left}
 use Rattle.bits.proofs.Words.{bit-up, bit-up-low, shift-digit}
@@ -31,7 +31,7 @@ use Rattle.code.proofs.Registers.{in-table}
 use Rattle.code.proofs.StreamRegisters.{DigitsAt}
 use Rattle.majority.specs.SecondCircuit.{entering, vote, votesForOne, decideDigit, decideDigits, decidedDigits}
 use Rattle.majority.specs.Rule.{voters}
-use Rattle.majority.specs.Voting.{checkBy}
+use Rattle.vote.specs.Voting.{checkBy}
 use Rattle.majority.proofs.SecondCircuit.{digits-at}
 use Rattle.voters.specs.declared.erased.Erased.{Erased}
 use Rattle.voters.proofs.ErasedDigits.{ErasedAt}

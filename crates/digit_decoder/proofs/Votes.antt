@@ -13,7 +13,7 @@ use Rattle.code.specs.Checks.{count}
 use Rattle.code.specs.Guarantees.{Guarantees}
 use Rattle.code.specs.declared.Card.{Card}
 use Rattle.majority.specs.Rule.{voting, voters}
-use Rattle.majority.specs.Voting.{checkBy, votesBy, streamVotesBy}
+use Rattle.vote.specs.Voting.{checkBy, votesBy, streamVotesBy}
 use Rattle.majority.proofs.Plain.{all-vote, all-of}
 use Rattle.voters.specs.Voters.{streamVotersBy, streamOnesBy}
 use Rattle.voters.specs.declared.erased.Erased.{Erased}

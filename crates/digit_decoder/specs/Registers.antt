@@ -12,7 +12,7 @@ use lib.Dec.{ltb, eqb}
 use Rattle.bits.specs.Sums.{xorBelow, upTo}
 use Rattle.bits.specs.Digits.{bit, fromDigits, shiftUp}
 use Rattle.code.specs.Registers.{generatorMask}
-use Rattle.majority.specs.Voting.{streamVotesBy}
+use Rattle.vote.specs.Voting.{streamVotesBy}
 use Rattle.voters.specs.Voters.{streamVotersBy, streamOnesBy}
 
 -- what an information stream with the generator g adds to the sums of a parity stream: for each term both of its registers, moved by it

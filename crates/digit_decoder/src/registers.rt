@@ -94,7 +94,7 @@ fn votes<'a>(
     if any == 0 {
         return Votes {
             voting: count,
-            ones: majority::stream_votes(checks, i, count, words, p),
+            ones: vote::stream_votes(checks, i, count, words, p),
         };
     }
     voters::stream_votes(generators, checks, i, count, words, marks, k, p)

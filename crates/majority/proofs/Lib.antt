@@ -12,5 +12,3 @@ pub mod Erased
 pub mod SecondCircuit
 -- the link figure
 pub mod Figures
--- the vote on registers
-pub mod Voting

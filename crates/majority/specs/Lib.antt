@@ -2,6 +2,5 @@ pub mod Rule
 pub mod SecondCircuit
 pub mod AsSent
 pub mod Plain
-pub mod Voting
 pub mod Edges
 pub mod Erased

@@ -7,7 +7,7 @@ use lib.ListN.{length, getD, replicate, length-append, length-replicate, length-
 use lib.Seq.{getD-append-add}
 use Rattle.code.specs.declared.Card.{Card}
 use Rattle.receiving.specs.Answers.{Given, waiting, frame}
-use Rattle.receiving.specs.Calls.{handedBy, answersBy}
+use Rattle.receiving.specs.Calls.{handedBy, handedIn, answersBy}
 
 -- ---- the answer at time t
 module _ (rule : Card → List ℕ → List ℕ → List ℕ) (c : Card) (frames erased : List ℕ) (handed : length (rule c frames erased) ≡ length frames - c .m) where
@@ -40,10 +40,6 @@ module _ (rule : Card → List ℕ → List ℕ → List ℕ) (c : Card) (frames
         framed (f ∷ fs) (suc u) lu = framed fs u (omega arith)
 
 -- ---- the frames handed out by answers
-unfoldable pub handedIn : List Given → List ℕ
-handedIn [] = []
-handedIn (g ∷ gs) = handedBy g ++ handedIn gs
-
 handed-append : (gs hs : List Given) → handedIn (gs ++ hs) ≡ handedIn gs ++ handedIn hs
 unfolding handedIn
 handed-append [] hs = refl

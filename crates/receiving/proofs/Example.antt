@@ -1,23 +1,34 @@
 -- The claims of a session of any kind, each applied to card P, and the third term to T. What the calls take, and what the rule hands out for it, is computed
 -- for each kind; what the calls come to is not.
 use Prim.Native.Nat.{ℕ}
-use mathlib.Core.Path.{_≡_, refl, ap, ap₂, _∙_}
+use mathlib.Core.Path.{_≡_, refl, sym, ap, ap₂, _∙_}
 use mathlib.Core.List.{List, [], _∷_}
-use lib.ListN.{length, replicate}
+use lib.ListN.{length, getD, replicate}
 use Rattle.bits.specs.Sums.{sumBelow}
 use Rattle.bits.proofs.Sums.{all-at-most}
+use Rattle.bits.proofs.Lists.{zeros-at}
 use Rattle.code.specs.Bench.{P, T}
 use Rattle.code.specs.declared.Card.{Card}
 use Rattle.majority.proofs.Edges.{erased-edges}
 use Rattle.receiving.specs.Answers.{waiting, frame}
 use Rattle.receiving.specs.Receive.{Circuit}
-use Rattle.receiving.specs.Calls.{Call, takenFrames, takenErased, answersBy}
+use Rattle.receiving.specs.Calls.{Call, takenParts, takenFrames, takenErased, handedIn, sessionAfter, answersBy}
+use Rattle.receiving.specs.Former.{levelsInBand, formerAnswers}
 use Rattle.receiving.specs.Claims.{ByRule}
-use Rattle.receiving.specs.Example.{callsP, callsP-two-errors, callsP-lost, ReceivesP, callsT, callsT-lost, ReceivesT}
+use Rattle.receiving.specs.Example.{callsP, callsP-two-errors, callsP-lost, ReceivesP, quarter, faint, callsP-at, ReceivesFaintP, callsT, callsT-lost, ReceivesT}
 
 -- what the calls take: these frames, and which of their digits are erased
 abbrev pub Takes : {S : Type 0} → Circuit S → S → List Call → List ℕ → List ℕ → Type 0
 Takes x s calls frames erased = (takenFrames x s calls ≡ frames) × (takenErased x s calls ≡ erased)
+
+-- at the edge of the band: what is taken, how many of its levels lie within, and that the two lists were answered alike before
+pub record TakesFaint {S : Type 0} (x : Circuit S) (s : S) : Type 0 where
+  pub quarter-taken : Takes x s (callsP-at quarter) (0 ∷ 1 ∷ 0 ∷ []) (0 ∷ 0 ∷ 0 ∷ [])
+  pub quarter-outside : takenParts levelsInBand x s (callsP-at quarter) ≡ 0 ∷ 0 ∷ 0 ∷ []
+  pub quarter-received : x .received (sessionAfter x s (callsP-at quarter)) ≡ 3
+  pub faint-taken : Takes x s (callsP-at faint) (0 ∷ 1 ∷ 0 ∷ []) (3 ∷ 0 ∷ 0 ∷ [])
+  pub faint-within : takenParts levelsInBand x s (callsP-at faint) ≡ 2 ∷ 0 ∷ 0 ∷ []
+  pub alike-before : formerAnswers x s (callsP-at faint) ≡ formerAnswers x s (callsP-at quarter)
 
 module _ {S : Type 0} (x : Circuit S) (rule : Card → List ℕ → List ℕ → List ℕ) (s : S) where
   pub receives-P : ByRule x rule P s → Takes x s callsP (3 ∷ 3 ∷ 3 ∷ 2 ∷ []) (0 ∷ 0 ∷ 0 ∷ 1 ∷ []) → Takes x s callsP-two-errors (2 ∷ 2 ∷ 0 ∷ 0 ∷ []) (replicate 4 0)
@@ -31,6 +42,20 @@ module _ {S : Type 0} (x : Circuit S) (rule : Card → List ℕ → List ℕ →
         by-rule = claims .handed-by-rule callsP-two-errors ∙ ap₂ (rule P) (u .0) (u .1) ∙ r;
         lost-by-rule = claims .handed-by-rule callsP-lost ∙ ap₂ (rule P) (v .0) (v .1) ∙ l;
         answers = claims .answers-by-rule callsP ∙ ap₂ (answersBy rule P) (t .0) (t .1) ∙ a;
+      }
+
+  pub receives-faint-P : ByRule x rule P s → TakesFaint x s
+      → rule P (0 ∷ 1 ∷ 0 ∷ []) (replicate 3 0) ≡ 0 ∷ 0 ∷ [] → rule P (0 ∷ 1 ∷ 0 ∷ []) (3 ∷ 0 ∷ 0 ∷ []) ≡ 1 ∷ 1 ∷ [] → ReceivesFaintP x s
+  receives-faint-P claims t r l =
+      let quarter-out = claims .handed-by-rule (callsP-at quarter) ∙ ap₂ (rule P) (t .quarter-taken .0) (t .quarter-taken .1) ∙ r in
+      let same = claims .as-before (callsP-at quarter) (λ u. ap (λ (l : List ℕ). getD l u 0) (t .quarter-outside) ∙ zeros-at 3 u) in
+      record {
+        quarter-by-rule = quarter-out;
+        quarter-as-before = same;
+        received-before = ap (x .received) (sym (same .same-session)) ∙ t .quarter-received;
+        faint-counted = t .faint-within;
+        faint-by-rule = claims .handed-by-rule (callsP-at faint) ∙ ap₂ (rule P) (t .faint-taken .0) (t .faint-taken .1) ∙ l;
+        faint-before = ap handedIn (t .alike-before ∙ sym (same .same-answers)) ∙ quarter-out;
       }
 
   pub receives-T : ByRule x rule T s → Takes x s callsT (3 ∷ 0 ∷ 0 ∷ []) (replicate 3 0) → Takes x s callsT-lost (1 ∷ 4 ∷ 4 ∷ []) (2 ∷ 0 ∷ 0 ∷ []) → ReceivesT x s

@@ -1,8 +1,11 @@
 -- frames as they come
+pub mod Levels
 pub mod Yields
 pub mod Read
 -- lists of calls
 pub mod Outcomes
+pub mod Former
+pub mod LevelRows
 pub mod Answers
 pub mod Follow
 pub mod Turns

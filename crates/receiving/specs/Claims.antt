@@ -1,6 +1,6 @@
 -- What holds of any list of receiving calls, refused ones included, on a session freshly opened with the card c: the notice's second and third
--- terms, by document 01, "Checks" and "What comes out as sent", and document 02, R-6. The session is of any kind x, and `rule` is what its circuit is to
--- hand out for the frames taken, of which some digits may be erased.
+-- terms, by document 01, "Checks" and "What comes out as sent", and document 02, R-6 and R-7. The session is of any kind x, and `rule` is what its circuit
+-- is to hand out for the frames taken, of which some digits may be erased.
 -- Assumes nothing.
 use Prim.Native.Nat.{ℕ, _+_, _^_, _<_}
 use mathlib.Core.Path.{_≡_}
@@ -10,6 +10,7 @@ use Rattle.code.specs.declared.Card.{Card}
 use Rattle.majority.specs.AsSent.{Correctable}
 use Rattle.receiving.specs.Receive.{Circuit}
 use Rattle.receiving.specs.Calls.{Call, takenFrames, takenErased, handedOut, takenAnswers, answersBy}
+use Rattle.receiving.specs.Former.{NoneInBand, AsBefore}
 
 pub record ByRule {S : Type 0} (x : Circuit S) (rule : Card → List ℕ → List ℕ → List ℕ) (c : Card) (s : S) : Type 0 where
   -- the frames handed out are exactly those of the rule, for all frames taken
@@ -20,3 +21,5 @@ pub record ByRule {S : Type 0} (x : Circuit S) (rule : Card → List ℕ → Lis
   -- correctable, then it has come out as sent
   pub comes-out-as-sent : (calls : List Call) (info : List ℕ) → ((u : ℕ) → u < length info → getD info u 0 < 2 ^ c .k)
       → length (takenFrames x s calls) ≡ length info + c .m → Correctable c info (takenFrames x s calls) (takenErased x s calls) → handedOut x s calls ≡ info
+  -- "Sessions whose levels all lie outside the band decode as they did"
+  pub as-before : (calls : List Call) → NoneInBand x s calls → AsBefore x s calls

@@ -5,11 +5,12 @@ use mathlib.Core.Path.{_≡_}
 use mathlib.Core.Bool.{true, false}
 use mathlib.Core.List.{List, [], _∷_, _++_}
 use lib.ListN.{replicate}
-use lib.IntN.{pos}
+use lib.IntN.{pos, negsuc}
 use lib.Ieee.{nan, fin}
 use Rattle.receiving.specs.Answers.{waiting, frame}
 use Rattle.receiving.specs.Receive.{Circuit}
-use Rattle.receiving.specs.Calls.{Call, byte, readings, handedOut, takenAnswers}
+use Rattle.receiving.specs.Calls.{Call, byte, readings, takenParts, handedIn, handedOut, takenAnswers, sessionReadBy}
+use Rattle.receiving.specs.Former.{formerDigitOf, levelsInBand, formerAnswers, AsBefore}
 use Rattle.receiving.specs.declared.Reading.{Reading}
 use Rattle.receiving.specs.declared.Reading.the-variants.{Level, Erased}
 
@@ -46,6 +47,30 @@ pub record ReceivesP {S : Type 0} (x : Circuit S) (s : S) : Type 0 where
   -- and where the digits are lost, s1 alone puts frame 0 right, and then both checks vote
   pub lost-by-rule : handedOut x s callsP-lost ≡ 1 ∷ 1 ∷ []
   pub answers : takenAnswers x s callsP ≡ waiting ∷ frame 1 ∷ frame 0 ∷ frame 1 ∷ []
+
+-- minus 0.25, which is the digit 0, and the next level towards zero, which lies within the band
+abbrev pub quarter : Reading
+quarter = Level (fin true 1 (negsuc 1))
+
+abbrev pub faint : Reading
+faint = Level (fin true 16777215 (negsuc 25))
+
+-- 3, 1, 2 was sent for 1, 1, as above, and both digits of frame 0 come at this level. Levels within the band stand also in calls that are refused, and
+-- where they are not looked at
+abbrev pub callsP-at : Reading → List Call
+callsP-at level =
+    readings 8 (replicate 8 faint) ∷ readings 7 (pair faint (Level nan)) ∷ readings 7 (level ∷ level ∷ replicate 6 faint) ∷ byte 7 1 ∷ byte 7 0 ∷ []
+
+-- R-7's last sentence, at the edge of its condition
+pub record ReceivesFaintP {S : Type 0} (x : Circuit S) (s : S) : Type 0 where
+  -- minus 0.25 is a digit, and all is as before
+  pub quarter-by-rule : handedOut x s (callsP-at quarter) ≡ 0 ∷ 0 ∷ []
+  pub quarter-as-before : AsBefore x s (callsP-at quarter)
+  pub received-before : x .received (sessionReadBy formerDigitOf x s (callsP-at quarter)) ≡ 3
+  -- the next level is erased: two levels of frame 0 lie within the band, and other frames are handed out than before
+  pub faint-counted : takenParts levelsInBand x s (callsP-at faint) ≡ 2 ∷ 0 ∷ 0 ∷ []
+  pub faint-by-rule : handedOut x s (callsP-at faint) ≡ 1 ∷ 1 ∷ []
+  pub faint-before : handedIn (formerAnswers x s (callsP-at faint)) ≡ 0 ∷ 0 ∷ []
 
 -- what T sends for 3, information on both of its streams, with two parity digits wrong
 abbrev pub callsT : List Call

@@ -1,11 +1,13 @@
--- What a frame yields that comes as a byte or as readings: document 01, "Readings and bursts", amended for 'erased' by document 02, R-6.
+-- What a frame yields that comes as a byte or as readings: document 01, "Readings and bursts", amended for 'erased' by document 02, R-6, and for levels
+-- close to zero by R-7.
 -- Assumes nothing.
-use Prim.Native.Nat.{ℕ, zero, suc, _+_, _^_, min}
-use mathlib.Core.Bool.{true, false, cond}
+use Prim.Native.Nat.{ℕ, _+_, _*_, _^_, min}
+use mathlib.Core.Bool.{Bool, cond}
 use mathlib.Core.List.{List}
 use lib.ListN.{getD}
 use lib.Dec.{leb, ltb}
-use lib.Ieee.{Float, nan, inf, fin}
+use lib.IntN.{ℤ}
+use lib.Ieee.{Float, nan, inf, fin, up, down}
 use Rattle.bits.specs.Sums.{sumBelow}
 use Rattle.bits.specs.Digits.{fromDigits}
 use Rattle.card.specs.Refusals.{numberOf}
@@ -20,25 +22,24 @@ use Rattle.receiving.specs.declared.ReadFrame.the-variants as read-frame
 abbrev pub streamsOf : ℕ → ℕ → ℕ
 streamsOf k p = min (min k 4 + min p 8) 8
 
+-- ---- a reading
+
 -- what a reading yields: a digit, 'erased', or a refusal by its published number
 pub data ReadingYield : Type 0 where
   digit : ℕ → ReadingYield
   erased : ReadingYield
   refusal : ℕ → ReadingYield
 
--- what a frame yields: its digits, an erased one as 0, and a 1 for each that is erased; or a refusal by its published number
-pub data Yield : Type 0 where
-  yields : ℕ → ℕ → Yield
-  refuses : ℕ → Yield
+-- "A level whose magnitude is below 0.25": the magnitude is m · 2 ^ e, and 2 ^ e is `up e` over `down e`
+unfoldable pub inBand : ℕ → ℤ → Bool
+inBand m e = ltb (4 * (m * up e)) (down e)
 
--- a level above zero is digit 1, below zero 0, and zero of either sign is taken as 0; one that is infinite or not a number is refused.
+-- a level within the band is erased, another above zero is digit 1 and below zero 0; one that is infinite or not a number is refused.
 -- `fin true m e` is the number - m · 2 ^ e, and `fin false m e` the number m · 2 ^ e
 unfoldable pub digitOfLevel : Float → ReadingYield
 digitOfLevel nan = refusal 12
 digitOfLevel (inf sign) = refusal 12
-digitOfLevel (fin true m e) = digit 0
-digitOfLevel (fin false zero e) = digit 0
-digitOfLevel (fin false (suc m) e) = digit 1
+digitOfLevel (fin sign m e) = cond (inBand m e) erased (digit (cond sign 0 1))
 
 unfoldable pub digitOf : Reading → ReadingYield
 digitOf Erased = erased
@@ -66,25 +67,48 @@ faultIn (refusal n) = 1
 abbrev pub readingAt : List Reading → ℕ → Reading
 readingAt readings s = getD readings s (Level nan)
 
--- how many of the first n readings are infinite or not a number
-unfoldable pub faults : List Reading → ℕ → ℕ
-faults readings n = sumBelow n (λ s. faultIn (digitOf (readingAt readings s)))
+-- ---- the readings of a frame, where `read` tells what a reading yields
 
--- the frame that the first n readings make, digit s from reading s
-unfoldable pub frameRead : List Reading → ℕ → ℕ
-frameRead readings n = fromDigits n (λ s. digitIn (digitOf (readingAt readings s)))
+-- what a frame yields: its digits, an erased one as 0, and a 1 for each that is erased; or a refusal by its published number
+pub data Yield : Type 0 where
+  yields : ℕ → ℕ → Yield
+  refuses : ℕ → Yield
+
+-- how many of the first n are refused
+unfoldable pub faultsBy : (Reading → ReadingYield) → List Reading → ℕ → ℕ
+faultsBy read readings n = sumBelow n (λ s. faultIn (read (readingAt readings s)))
+
+-- the frame that the first n make, digit s from reading s
+unfoldable pub frameReadBy : (Reading → ReadingYield) → List Reading → ℕ → ℕ
+frameReadBy read readings n = fromDigits n (λ s. digitIn (read (readingAt readings s)))
 
 -- which digits of that frame are erased
-unfoldable pub erasedRead : List Reading → ℕ → ℕ
-erasedRead readings n = fromDigits n (λ s. markIn (digitOf (readingAt readings s)))
+unfoldable pub erasedReadBy : (Reading → ReadingYield) → List Reading → ℕ → ℕ
+erasedReadBy read readings n = fromDigits n (λ s. markIn (read (readingAt readings s)))
+
+-- what they yield; those after the n-th are not looked at
+unfoldable pub readFrameBy : (Reading → ReadingYield) → List Reading → ℕ → Yield
+readFrameBy read readings n =
+    cond (ltb 0 (faultsBy read readings n)) (refuses 12) (yields (frameReadBy read readings n) (erasedReadBy read readings n))
+
+-- as they are read
+abbrev pub faults : List Reading → ℕ → ℕ
+faults readings n = faultsBy digitOf readings n
+
+abbrev pub frameRead : List Reading → ℕ → ℕ
+frameRead readings n = frameReadBy digitOf readings n
+
+abbrev pub erasedRead : List Reading → ℕ → ℕ
+erasedRead readings n = erasedReadBy digitOf readings n
+
+abbrev pub readFrameOf : List Reading → ℕ → Yield
+readFrameOf readings n = readFrameBy digitOf readings n
+
+-- ---- a byte, and what the program hands back
 
 -- a byte is its frame, with nothing erased, unless it has a digit beyond its n streams
 unfoldable pub readByteOf : ℕ → ℕ → Yield
 readByteOf f n = cond (leb (2 ^ n) f) (refuses 11) (yields f 0)
-
--- what the readings of a frame yield; those after the n-th are not looked at
-unfoldable pub readFrameOf : List Reading → ℕ → Yield
-readFrameOf readings n = cond (ltb 0 (faults readings n)) (refuses 12) (yields (frameRead readings n) (erasedRead readings n))
 
 -- what the program hands back, in the published numbers
 abbrev pub yieldOf : ReadDigit → ReadingYield

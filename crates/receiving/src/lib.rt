@@ -10,7 +10,7 @@ ghost use Rattle.receiving.specs.Opening.{countedAt};
 ghost use Rattle.receiving.specs.Readings.{streamsOf, yieldOf, frameYieldOf, digitOf, readByteOf, readFrameOf};
 ghost use Rattle.receiving.specs.Receive.{admitOf};
 
-// A level, or the mark 'erased'.
+// A level, or the mark 'erased'. A level close to zero is a guess, and is erased as well.
 pub enum Reading {
     Level(f32),
     Erased,
@@ -70,7 +70,8 @@ pub fn read_byte(frame: u8, k: usize, p: usize) -> ReadFrame
     }
 }
 
-// Above zero is 1; below zero and zero of either sign are 0; a level that is infinite or not a number is refused.
+// A level of at least 0.25 is 1, one of at most minus 0.25 is 0, and one between them is erased; a level that is infinite or not a number is
+// refused.
 fn digit_of(reading: Reading) -> ReadDigit
     ensures { λ r. ⌜ yieldOf r ≡ digitOf reading ⌝ }
 {
@@ -78,13 +79,14 @@ fn digit_of(reading: Reading) -> ReadDigit
         Reading::Erased => ReadDigit::Erased,
         Reading::Level(level) => {
             let infinite = 1.0f32 / 0.0f32;
-            if level < infinite {
-                if level > -infinite {
-                    if level > 0.0 {
-                        return ReadDigit::Digit(1);
-                    }
+            if level < infinite && level > -infinite {
+                if level >= 0.25 {
+                    return ReadDigit::Digit(1);
+                }
+                if level <= -0.25 {
                     return ReadDigit::Digit(0);
                 }
+                return ReadDigit::Erased;
             }
             ReadDigit::Refused(Refusal::LevelNotFinite)
         }

@@ -17,8 +17,8 @@ use Rattle.bits.proofs.Words.{placed-fits, placed-more}
 use Rattle.code.specs.Judging.{judge}
 use Rattle.code.specs.declared.Card.{Card}
 use Rattle.orthogonal.specs.Pass.{holds, Passed, wordCode, informationStreams, parityStreams, firstMasks}
-use Rattle.majority.specs.Voting.{checkBy, streamCheckBy}
-use Rattle.majority.proofs.Voting.{check-lt, check-none}
+use Rattle.vote.specs.Voting.{checkBy, streamCheckBy}
+use Rattle.vote.proofs.Voting.{check-lt, check-none}
 use Rattle.voters.specs.Voters.{masksAt, votingBy, votersBy, onesBy, streamVotersBy, streamOnesBy, majorityVotingBy, decideVotingBy}
 
 module _ (generators checks erased : List ℕ) (k p i : ℕ) where

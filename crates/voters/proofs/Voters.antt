@@ -26,8 +26,8 @@ use Rattle.code.proofs.Touches.{touches-same}
 use Rattle.orthogonal.specs.Pass.{holds, wordCode, informationStreams, parityStreams, firstMasks}
 use Rattle.orthogonal.proofs.Within.{judge-within}
 use Rattle.majority.specs.Rule.{cleared, checkAt, voting, voters, votes, decide, decideFrame}
-use Rattle.majority.specs.Voting.{checkBy}
-use Rattle.majority.proofs.Voting.{check-is}
+use Rattle.vote.specs.Voting.{checkBy}
+use Rattle.vote.proofs.Voting.{check-is}
 use Rattle.voters.specs.Voters.{masksAt, votingBy, votersBy, onesBy, streamVotersBy, streamOnesBy, majorityVotingBy, decideVotingBy}
 use Rattle.voters.proofs.Counting.{stream-voters-there, stream-ones-there}
 

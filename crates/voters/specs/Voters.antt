@@ -11,7 +11,7 @@ use Rattle.bits.specs.Sums.{sumBelow, upTo}
 use Rattle.bits.specs.Digits.{fromDigits}
 use Rattle.code.specs.Judging.{judge}
 use Rattle.orthogonal.specs.Pass.{holds, wordCode, informationStreams, parityStreams, firstMasks}
-use Rattle.majority.specs.Voting.{checkBy}
+use Rattle.vote.specs.Voting.{checkBy}
 
 -- the masks of the check that begin at `at`
 unfoldable pub masksAt : List ℕ → ℕ → List ℕ

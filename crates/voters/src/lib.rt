@@ -88,7 +88,7 @@ pub fn stream_votes<'a>(
         while q < n {
             let votes = check_votes(generators, checks, erased, k, parities, i, q);
             voting = voting + bits::index(votes);
-            ones = ones + votes * majority::stream_check(checks, i, q, words, parities);
+            ones = ones + votes * vote::stream_check(checks, i, q, words, parities);
             q += 1;
         }
     }
@@ -113,7 +113,7 @@ pub fn decide<'a>(
     let mut i = 0;
     while i < streams {
         let votes = stream_votes(generators, checks, i, counts[i], syndromes, erased, k, p);
-        errors = errors + (majority::more_than_half(votes.voting, votes.ones) << i);
+        errors = errors + (vote::more_than_half(votes.voting, votes.ones) << i);
         i += 1;
     }
     errors

@@ -1,7 +1,7 @@
 use mathlib.Core.Path.{refl}
 use native.Mathlib.Omega.{arith}
 use lib.Bits.{and-lt}
-use Rattle.majority.proofs.Voting.{ones-of-common}
+use Rattle.vote.proofs.Voting.{ones-of-common}
 use Rattle.ballot.proofs.ones_in.Statement.{statement}
 use Rattle.ballot.proofs.ones_in.Tie as tie
 

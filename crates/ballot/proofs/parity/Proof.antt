@@ -2,7 +2,7 @@ use Prim.Native.Nat.{_%_}
 use mathlib.Core.Path.{refl, ap}
 use native.Mathlib.Omega.{arith}
 use lib.Bits.{and-lt}
-use Rattle.majority.proofs.Voting.{ones-of-common}
+use Rattle.vote.proofs.Voting.{ones-of-common}
 use Rattle.ballot.proofs.parity.Statement.{statement}
 use Rattle.ballot.proofs.parity.Tie as tie
 

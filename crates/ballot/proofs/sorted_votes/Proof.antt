@@ -11,7 +11,7 @@ use Rattle.bits.specs.Sums.{sumBelow}
 use Rattle.bits.specs.Digits.{dot}
 use Rattle.bits.proofs.Sums.{sum-more}
 use Rattle.ballot.specs.Ballot.{parities}
-use Rattle.majority.proofs.Voting.{ones-of-common}
+use Rattle.vote.proofs.Voting.{ones-of-common}
 use Rattle.ballot.proofs.sorted_votes.Statement.{statement}
 use Rattle.ballot.proofs.sorted_votes.Tie as tie
 

@@ -6,7 +6,7 @@ use native.Mathlib.Omega.{arith}
 use borrow.Author.Needs.{needs}
 use borrow.Author.Tests.{le-ltb}
 use Rattle.bits.specs.Sums.{sumBelow}
-use Rattle.majority.proofs.Voting.{stream-check-lt}
+use Rattle.vote.proofs.Voting.{stream-check-lt}
 use Rattle.voters.specs.Voters.{votersBy, onesBy, streamVotersBy, streamOnesBy}
 use Rattle.voters.proofs.Counting.{voting-le, voters-le, voters-more, ones-le, ones-more, stream-voters-there, stream-ones-there}
 use Rattle.voters.proofs.stream_votes.Statement.{statement}

@@ -2,7 +2,7 @@ use mathlib.Core.Path.{ap, _∙_}
 use mathlib.Core.List.{_∷_}
 use native.Mathlib.Omega.{arith}
 use lib.ListN.{replicate}
-use Rattle.majority.specs.Voting.{decideBy}
+use Rattle.vote.specs.Voting.{decideBy}
 use Rattle.burst.proofs.OneParityReceiving.{word-turn}
 use borrow.Author.Needs.{needs}
 use Rattle.burst.proofs.one_parity_receive.hand_corrected.Statement.{statement}

@@ -1,7 +1,7 @@
 use mathlib.Core.Path.{refl, sym, _∙_}
 use mathlib.Core.Logic.{inl, inr}
 use borrow.Author.Needs.{needs}
-use Rattle.majority.proofs.Voting.{decide-none, decide-wider}
+use Rattle.vote.proofs.Voting.{decide-none, decide-wider}
 use Rattle.burst.proofs.Deciding.{decided-small}
 use Rattle.burst.proofs.registers.correct.Statement.{statement}
 use Rattle.burst.proofs.registers.correct.Tie as tie

@@ -1,5 +1,5 @@
 use borrow.Author.Needs.{needs}
-use Rattle.clients.proofs.ReceiverClauses.{opened-P, receives-as-P}
+use Rattle.clients.proofs.ReceiverClauses.{opened-P, receives-as-P, receives-faint-as-P}
 use Rattle.clients.proofs.calls.p_receives.Statement.{statement}
 use Rattle.clients.proofs.calls.p_receives.Tie as tie
 
@@ -10,7 +10,11 @@ open-requires : tie.Need-open-requires
 open-requires c κs = search needs
 
 returns : tie.Need-returns
-returns c = (opened-P (c .open .result) (c .open .ensures), receives-as-P (c .open .result) (c .open .ensures))
+returns c = (
+  opened-P (c .open .result) (c .open .ensures),
+  receives-as-P (c .open .result) (c .open .ensures),
+  receives-faint-as-P (c .open .result) (c .open .ensures),
+)
 
 pub p-receives-spec : {M : Type 1} → statement M
 p-receives-spec = tie.close (tie.spec slice-aggregate-open open-requires returns)

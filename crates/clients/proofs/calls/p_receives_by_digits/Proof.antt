@@ -1,5 +1,5 @@
 use borrow.Author.Needs.{needs}
-use Rattle.clients.proofs.ReceiverClauses.{opened-P-by-digits, receives-as-P-by-digits, answers-as-P}
+use Rattle.clients.proofs.ReceiverClauses.{opened-P-by-digits, receives-as-P-by-digits, receives-faint-as-P-by-digits, answers-as-P}
 use Rattle.clients.proofs.calls.p_receives_by_digits.Statement.{statement}
 use Rattle.clients.proofs.calls.p_receives_by_digits.Tie as tie
 
@@ -13,6 +13,7 @@ returns : tie.Need-returns
 returns c = (
   opened-P-by-digits (c .open .result) (c .open .ensures),
   receives-as-P-by-digits (c .open .result) (c .open .ensures),
+  receives-faint-as-P-by-digits (c .open .result) (c .open .ensures),
   answers-as-P (c .open .result) (c .open .ensures),
 )
 

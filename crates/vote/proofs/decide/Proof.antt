@@ -7,10 +7,10 @@ use borrow.Author.Needs.{needs}
 use Rattle.bits.specs.Sums.{sumBelow}
 use Rattle.bits.specs.Digits.{fromDigits, shiftUp}
 use Rattle.bits.proofs.Words.{placed-fits}
-use Rattle.majority.specs.Voting.{decideBy}
-use Rattle.majority.proofs.Voting.{errorOf, error-of, majority-lt, errors-lt, errors-more}
-use Rattle.majority.proofs.decide.Statement.{statement}
-use Rattle.majority.proofs.decide.Tie as tie
+use Rattle.vote.specs.Voting.{decideBy}
+use Rattle.vote.proofs.Voting.{errorOf, error-of, majority-lt, errors-lt, errors-more}
+use Rattle.vote.proofs.decide.Statement.{statement}
+use Rattle.vote.proofs.decide.Tie as tie
 
 abbrev Inv-loop : tie.InvT-loop
 Inv-loop counts checks syndromes k p streams parities errors₀ i₀ errors i = (i ≤ streams) × (errors ≡ fromDigits i (errorOf counts checks syndromes parities))

@@ -21,11 +21,11 @@ use Rattle.bits.proofs.Words.{shift-digit}
 use Rattle.code.specs.Checks.{count, checkMask}
 use Rattle.code.specs.Guarantees.{Guarantees}
 use Rattle.code.specs.declared.Card.{Card}
 use Rattle.majority.specs.Rule as Rule
 use Rattle.majority.specs.Rule.{cleared, checkAt, decide}
 use Rattle.majority.specs.Plain.{decideFrame, NoneErased}
-use Rattle.majority.specs.Voting.{checkBy, streamCheckBy, votesBy, majorityBy, decideBy}
+use Rattle.vote.specs.Voting.{checkBy, streamCheckBy, votesBy, majorityBy, decideBy}
 use Rattle.majority.proofs.Plain.{none-erased, decide-plain}
 
 -- the ones of what two words have in common
 pub ones-of-common : (x y : ℕ) {z : ℕ} → z ≡ bitAnd x y → z < 2 ^ 32 → ones z ≡ dot x y

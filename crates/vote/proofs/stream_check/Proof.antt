@@ -2,9 +2,9 @@ use Prim.Native.Nat.{_+_, _*_}
 use mathlib.Core.Path.{refl, ap, _∙_}
 use borrow.Author.Needs.{needs}
 use borrow.Author.Tests.{lt-ltb, le-ltb}
-use Rattle.majority.specs.Voting.{checkBy, streamCheckBy}
-use Rattle.majority.proofs.stream_check.Statement.{statement}
-use Rattle.majority.proofs.stream_check.Tie as tie
+use Rattle.vote.specs.Voting.{checkBy, streamCheckBy}
+use Rattle.vote.proofs.stream_check.Statement.{statement}
+use Rattle.vote.proofs.stream_check.Tie as tie
 
 returns : tie.Need-returns
 unfolding streamCheckBy

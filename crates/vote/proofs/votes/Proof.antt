@@ -7,10 +7,10 @@ use lib.Pow.{pow-mono}
 use borrow.Author.Needs.{needs}
 use Rattle.bits.specs.Sums.{sumBelow}
 use Rattle.bits.proofs.Sums.{sum-step, sum-end}
-use Rattle.majority.specs.Voting.{checkBy, votesBy}
-use Rattle.majority.proofs.Voting.{check-lt, ones-more, word-more}
-use Rattle.majority.proofs.votes.Statement.{statement}
-use Rattle.majority.proofs.votes.Tie as tie
+use Rattle.vote.specs.Voting.{checkBy, votesBy}
+use Rattle.vote.proofs.Voting.{check-lt, ones-more, word-more}
+use Rattle.vote.proofs.votes.Statement.{statement}
+use Rattle.vote.proofs.votes.Tie as tie
 
 abbrev Inv-loop : tie.InvT-loop
 Inv-loop checks i count syndromes p word₀ q₀ word q =

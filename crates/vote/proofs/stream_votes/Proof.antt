@@ -2,9 +2,9 @@ use Prim.Native.Nat.{ℕ}
 use mathlib.Core.Path.{refl, ap₂, _∙_}
 use borrow.Author.Needs.{needs}
 use borrow.Author.Tests.{lt-ltb, le-ltb}
-use Rattle.majority.specs.Voting.{votesBy, streamVotesBy}
-use Rattle.majority.proofs.stream_votes.Statement.{statement}
-use Rattle.majority.proofs.stream_votes.Tie as tie
+use Rattle.vote.specs.Voting.{votesBy, streamVotesBy}
+use Rattle.vote.proofs.stream_votes.Statement.{statement}
+use Rattle.vote.proofs.stream_votes.Tie as tie
 
 at-most-requires : tie.Need-at-most-requires
 at-most-requires c κs = search needs

@@ -1,7 +1,7 @@
 use borrow.Author.Needs.{needs}
 use borrow.Author.Tests.{lt-ltb, le-ltb}
-use Rattle.majority.proofs.more_than_half.Statement.{statement}
-use Rattle.majority.proofs.more_than_half.Tie as tie
+use Rattle.vote.proofs.more_than_half.Statement.{statement}
+use Rattle.vote.proofs.more_than_half.Tie as tie
 
 index-requires : tie.Need-index-requires
 index-requires c κs = search needs
