@@ -3,7 +3,8 @@
  * output size around the count. Each call's answer, every output byte, the guard bytes around each lent buffer, and the
  * card and input themselves are compared. What the library receives by the first circuit is also set against the
  * reference's second one, on streams most of which are beyond the correctable number. Bursts carry no erased digits: on
- * those the reference's sessions alone are set against each other, and what comes out of them against what was sent.
+ * those the reference's sessions alone are set against each other, and what comes out of them against what was sent. What
+ * its readings yield is set against a table, and levels outside the band against the same frames as bytes.
  *
  *     driver               everything, with the seed that is always the same
  *     driver SEED          everything, with another seed
@@ -19,6 +20,8 @@
 #include "random.h"
 #include "reference.h"
 
+#include <float.h>
+#include <math.h>
 #include <signal.h>
 #include <stdarg.h>
 #include <stdio.h>
@@ -426,12 +429,17 @@ static void fail_erased(const struct fields *fields, const struct transmission *
     fail("%s", what);
 }
 
-/* A frame as readings. An erased one has the level of the digit all the same, which must not be looked at. */
-static void readings_of(int frame, int marks, struct reading readings[8])
+/* Frame u as readings. A digit is a level outside the band, 0.25 included. An erased one is marked, and has the level of
+ * the digit all the same, which must not be looked at; or it isn't, and has a level in the band. */
+static void readings_of(long u, int frame, int marks, struct reading readings[8])
 {
+    static const float outside[] = {0.25f, 0x1.000002p-2f, 1, FLT_MAX}, in_band[] = {0x1.fffffep-3f, 0, 0x1p-149f, 0.125f};
     for (int s = 0; s < 8; s++) {
-        readings[s].erased = marks >> s & 1;
-        readings[s].level = frame >> s & 1 ? 1 : -1;
+        long turn = u + s;
+        int lost = marks >> s & 1, by_level = lost && turn % 2;
+        float magnitude = by_level ? in_band[turn / 2 % 4] : outside[turn % 4];
+        readings[s].erased = lost && !by_level;
+        readings[s].level = frame >> s & 1 ? magnitude : -magnitude;
     }
 }
 
@@ -443,7 +451,7 @@ static void receive_by_both(const struct fields *fields, const struct transmissi
     reference_open_receiving(&second, TYPE_II, fields);
     for (long u = 0; u < t->whole; u++) {
         struct reading readings[8];
-        readings_of(t->received[u], t->erased[u], readings);
+        readings_of(u, t->received[u], t->erased[u], readings);
         struct answer one = reference_receive_readings(&first, fields->number, readings);
         struct answer other = reference_receive_readings(&second, fields->number, readings);
         if (one.kind != other.kind || one.value != other.value)
@@ -1084,6 +1092,71 @@ static void bench_erased(void)
         expect_erased(&cases[turn]);
 }
 
+/* What is handed out of a frame of three digits, the second by this reading and the others given. The card has m 0 and
+ * both parity digits equal to the information digit, each with a check. Readings after the third are not looked at. */
+static struct answer handed_out(enum circuit circuit, int first, struct reading second, int third)
+{
+    struct fields card = {.k = 1, .n = 3, .p = 2, .m = 0, .J = {0, 2}};
+    struct reading readings[8] = {{0, first ? 1 : -1}, second, {0, third ? 1 : -1}};
+    struct receiving session;
+    card.g[1][1][0] = card.g[1][2][0] = 1;
+    card.check[1][1][1][0] = card.check[1][2][2][0] = 1;
+    for (int s = 3; s < 8; s++)
+        readings[s].level = NAN;
+    reference_open_receiving(&session, circuit, &card);
+    struct answer answer = reference_receive_readings(&session, card.number, readings);
+    reference_close_receiving(&session);
+    return answer;
+}
+
+enum { ERASED = 2 };
+
+/* What the reading yields: a digit, ERASED, or a refusal. Of 1, x, 0 comes 1 only if x is 1, and the votes are a tie; of
+ * 0, x, 1 likewise 0 only if x is 0. With x erased the other check alone votes, both times against the first digit. */
+static int yield_of(enum circuit circuit, struct reading reading)
+{
+    struct answer under_1 = handed_out(circuit, 1, reading, 0), under_0 = handed_out(circuit, 0, reading, 1);
+    if (under_1.kind == REFUSED || under_0.kind == REFUSED)
+        return under_1.kind == under_0.kind && under_1.value == under_0.value ? under_1.value : -1;
+    if (under_1.value == under_0.value)
+        return under_1.value;
+    return under_1.value == 0 ? ERASED : -1;
+}
+
+static void expect_yield(uint32_t bits, int marked, int yield)
+{
+    struct reading reading = {.erased = marked};
+    memcpy(&reading.level, &bits, sizeof bits);
+    now.function = "the reference's readings";
+    now.card_length = now.input_length = now.output_length = 0;
+    for (enum circuit circuit = TYPE_I; circuit <= TYPE_II; circuit++)
+        if (yield_of(circuit, reading) != yield)
+            fail("the level %08lx, its mark %d, does not yield %d in circuit %d", (unsigned long)bits, marked, yield,
+                 circuit == TYPE_I ? 1 : 2);
+}
+
+/* What levels yield by document 02's R-7. Beside the mark 'erased' they are not looked at. */
+static void bench_levels(void)
+{
+    static const struct { uint32_t bits; int yield; } levels[] = {
+        {0x3e7fffff, ERASED}, {0x3e800000, 1}, {0x3e800001, 1},         /* 0.25 and its neighbours */
+        {0xbe7fffff, ERASED}, {0xbe800000, 0}, {0xbe800001, 0},         /* the same below zero */
+        {0x00000000, ERASED}, {0x80000000, ERASED},                     /* zeros */
+        {0x00000001, ERASED}, {0x80000001, ERASED},                     /* the least and the largest subnormal */
+        {0x007fffff, ERASED}, {0x807fffff, ERASED},
+        {0x00800000, ERASED}, {0x80800000, ERASED},                     /* the least normal */
+        {0x3e000000, ERASED}, {0xbe000000, ERASED},                     /* 0.125 */
+        {0x3f000000, 1}, {0xbf000000, 0}, {0x3f800000, 1}, {0xbf800000, 0}, /* 0.5, 1 */
+        {0x7f7fffff, 1}, {0xff7fffff, 0},                               /* the largest */
+        {0x7f800000, 12}, {0xff800000, 12},                             /* infinite */
+        {0x7fc00000, 12}, {0xffc00000, 12}, {0x7f800001, 12}, {0xff800001, 12}, {0x7fffffff, 12}, {0xffffffff, 12},
+    };
+    for (size_t turn = 0; turn < sizeof levels / sizeof *levels; turn++) {
+        expect_yield(levels[turn].bits, 0, levels[turn].yield);
+        expect_yield(levels[turn].bits, 1, ERASED);
+    }
+}
+
 /* With length 0 a pointer may be null. */
 static void null_pointers(void)
 {
@@ -1113,6 +1186,7 @@ static void bench_round(struct random *r)
     bench_stated(r);
     bench_written(r);
     bench_erased();
+    bench_levels();
     null_pointers();
 }
 

@@ -567,18 +567,17 @@ static int digit_beyond(const struct frame *frame, int streams)
     return 0;
 }
 
-/* A frame from readings, those after the n-th not looked at; 12, or 0 for no refusal. */
+/* A frame from readings, those after the n-th not looked at; 12, or 0 for no refusal. "A level whose magnitude is below
+ * 0.25 is erased" (document 02, R-7), which 0.25 and minus 0.25 are not. */
 static int frame_of_readings(const struct reading readings[8], int n, struct frame *frame)
 {
     memset(frame, 0, sizeof *frame);
     for (int i = 1; i <= n; i++) {
         const struct reading *reading = &readings[i - 1];
-        frame->erased[i] = reading->erased;
-        if (reading->erased)
-            continue;
-        if (!isfinite(reading->level))
+        if (!reading->erased && !isfinite(reading->level))
             return 12;
-        if (reading->level > 0)
+        frame->erased[i] = reading->erased || fabsf(reading->level) < 0.25f;
+        if (!frame->erased[i] && reading->level > 0)
             frame->digit[i] = 1;
     }
     return 0;

@@ -12,6 +12,9 @@
  * That erased digits leave the vote (document 02, R-6) was added by an author who had not looked at the library's code,
  * from that document's paragraph. What a check's own digit is, which digits it touches, that a time not yet decided is
  * u or a later one, and that in the second circuit none voting is a tie, the author was told.
+ * That a level near zero is erased (document 02, R-7) was added by an author who had not looked at the library's code,
+ * from that document's paragraph. That zeros are among these levels, that what is infinite or not a number is refused as
+ * before, and that beside the mark 'erased' no level is looked at, the author was told.
  *
  * It is made to be read, not to be fast. A digit is an int that is 0 or 1, a sum of digits is a
  * sum with one `% 2` at its end, and a stream keeps every frame from time 0 on: no masks, no
@@ -115,7 +118,7 @@ struct answer {
 };
 
 struct reading {
-    int erased; /* 1: the level is not looked at */
+    int erased; /* the mark: where it is 1 the level is not looked at */
     float level;
 };
 

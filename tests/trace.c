@@ -2,6 +2,8 @@
 
 #include "reference.h"
 
+#include <float.h>
+#include <math.h>
 #include <stdarg.h>
 #include <stdio.h>
 #include <stdlib.h>
@@ -58,6 +60,28 @@ static int readings_of(const uint8_t *bytes, struct reading readings[8])
     return 1;
 }
 
+static enum level level_of(const struct reading *reading)
+{
+    float magnitude = fabsf(reading->level);
+    if (reading->erased)
+        return MARKED;
+    if (magnitude == 0)
+        return ZERO;
+    if (magnitude < FLT_MIN)
+        return SUBNORMAL;
+    if (magnitude == nextafterf(0.25f, 0))
+        return LAST_IN_BAND;
+    if (magnitude == nextafterf(0.25f, 1))
+        return FIRST_BEYOND;
+    return magnitude < 0.25f ? IN_BAND : magnitude == 0.25f ? QUARTER : BEYOND;
+}
+
+static void count_levels(const struct reading readings[8], int n, struct trace_counts *counts)
+{
+    for (int s = 0; s < n; s++)
+        counts->levels[signbit(readings[s].level) != 0][level_of(&readings[s])]++;
+}
+
 /* The sessions that a trace drives: session X is receiving[X]. */
 struct sessions {
     struct receiving receiving[2];
@@ -102,6 +126,20 @@ static size_t select_session(const uint8_t *record, size_t left, struct sessions
     return 2;
 }
 
+/* The record `r`. */
+static size_t receive_readings(const uint8_t *record, size_t left, struct receiving *receiving, struct text *text,
+                               struct answer_counts *received, struct trace_counts *counts)
+{
+    struct reading readings[8];
+    if (left < 42 || !readings_of(record + 2, readings))
+        return 0;
+    struct answer answer = reference_receive_readings(receiving, record[1], readings);
+    if (answer.kind != REFUSED)
+        count_levels(readings, receiving->card.n, counts);
+    add_answer(text, answer, received);
+    return 42;
+}
+
 /* The record `f`. The second circuit gives no link figure. */
 static size_t tell_figure(const struct sessions *sessions, struct text *text, struct trace_counts *counts)
 {
@@ -120,7 +158,6 @@ static size_t one_record(const uint8_t *record, size_t left, struct sessions *se
 {
     struct receiving *receiving = &sessions->receiving[sessions->selected];
     struct answer_counts *received = &counts->received[sessions->selected];
-    struct reading readings[8];
     switch (record[0]) {
     case 's':
         return select_session(record, left, sessions, text, counts);
@@ -130,10 +167,7 @@ static size_t one_record(const uint8_t *record, size_t left, struct sessions *se
         add_answer(text, reference_receive_byte(receiving, record[1], record[2]), received);
         return 3;
     case 'r':
-        if (left < 42 || !readings_of(record + 2, readings))
-            return 0;
-        add_answer(text, reference_receive_readings(receiving, record[1], readings), received);
-        return 42;
+        return receive_readings(record, left, receiving, text, received, counts);
     case 'f':
         return tell_figure(sessions, text, counts);
     case 'i':

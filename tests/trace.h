@@ -26,10 +26,24 @@ struct answer_counts {
     long refused[32]; /* by number */
 };
 
+/* What a reading can be, by the magnitude of its level: document 02's R-7 erases those below 0.25. */
+enum level {
+    MARKED, /* 'erased', whatever the level beside it */
+    ZERO,
+    SUBNORMAL,
+    IN_BAND,      /* any other below 0.25, but for the next */
+    LAST_IN_BAND, /* the one before 0.25 */
+    QUARTER,
+    FIRST_BEYOND, /* the one after it */
+    BEYOND,
+    LEVELS
+};
+
 /* What the records came to. */
 struct trace_counts {
     long records, figures, selections;
     struct answer_counts received[2], sent;
+    long levels[2][LEVELS]; /* of frames taken, the n readings: those with a sign at [1] */
     long cards_refused[32]; /* by number */
     /* Bad records: `s` alone, `s` with an X above 1, `f` while session 1 is selected. */
     long cut_selections, other_selections, second_figures;

@@ -1,10 +1,12 @@
 /* Sets the program `trace`, and by it the sessions, against the reference: random cards with the offsets of their
  * refusals, cards that state a default among them, random mixtures of bytes and readings, single digits, whole frames
- * and all digits erased, wrong numbers, refused calls in between, figures after every call, sending past the tail,
- * every kind of f32. What the program writes is compared byte by byte.
+ * and all digits erased, by the mark and by levels near zero, wrong numbers, refused calls in between, figures after
+ * every call, sending past the tail, every kind of f32. What the program writes is compared byte by byte.
  *
  * The two receivers are also set against each other, without the reference: of the same calls by session 0 and by
- * session 1 the program must have written the same lines. Most of the streams for this are beyond the correctable number.
+ * session 1 the program must have written the same lines. So it must where one of them gets a frame as a byte and the
+ * other as levels outside the band, or with its digits erased in another way. Most of the streams for this are beyond the
+ * correctable number.
  *
  * And what comes out is set against what was sent, without the reference's receivers: of a stream that is received
  * whole and isn't beyond the correctable number the program must have written the information frames.
@@ -52,6 +54,7 @@ static struct {
     uint8_t sent[MOST_STREAM], received[MOST_STREAM], erased[MOST_STREAM];
     int whole;   /* whether it is received from time 0 to its last frame: by both sessions, or by this one */
     int session;
+    long erased_by_level; /* of the erased digits, those that are not marked */
     long calls;  /* up to its last frame, refused ones included */
     size_t end;  /* the place in the trace after them */
     int beyond;  /* whether it is beyond the correctable number */
@@ -66,18 +69,21 @@ static struct {
     long default_k, default_n;
 } stating;
 
-/* What both receivers wrote alike, and of which streams. */
+/* What both receivers wrote alike, and of which streams. Of the calls, those by a byte here and by levels outside the
+ * band there, and those by unlike readings. */
 static struct {
     long calls, frames;
+    long byte_and_levels, unlike_readings;
     long streams, streams_beyond, stream_frames, stream_frames_beyond;
 } alike;
 
 /* The streams received whole: those that came out as sent, as they had to; of those with erased digits, the ones that
  * did and the ones that were beyond the correctable number. And in the latter two: decisions in which a check did not
- * vote, and in which none did; and information digits 1 that were erased and had to come out. */
+ * vote, and in which none did; and information digits 1 that were erased and had to come out. Of all that had to come
+ * out, the digits erased by a level. */
 static struct {
     long as_sent;
-    long erased_as_sent, erased_beyond;
+    long erased_as_sent, erased_beyond, erased_by_level;
     long some_silent, all_silent;
     long restored;
 } whole_streams;
@@ -90,38 +96,51 @@ static void add_byte(int byte)
 
 /* ---- Readings ---- */
 
-/* Levels that are read with care: zeros, the least and largest numbers, and what is no number. */
+/* Levels as their bits: without the sign they are in the order of the magnitudes, and below `quarter` lies the band in
+ * which document 02's R-7 erases. */
+static const uint32_t quarter = 0x3e800000, infinite = 0x7f800000, sign = 0x80000000;
+
+/* Levels that are read with care: zeros, the least and largest numbers, those at 0.25, and what is no number. */
 static uint32_t special_level(struct random *r)
 {
     static const uint32_t patterns[] = {
         0x00000000, 0x80000000,                         /* the two zeros */
         0x00000001, 0x80000001, 0x007fffff, 0x807fffff, /* subnormal */
         0x00800000, 0x80800000, 0x7f7fffff, 0xff7fffff, /* the least normal, the largest */
-        0x3e800000, 0xbe800000, 0x3f800000, 0xbf800000,
+        0x3e7fffff, 0xbe7fffff, 0x3e800000, 0xbe800000, 0x3e800001, 0xbe800001, /* 0.25 and its neighbours */
+        0x3f800000, 0xbf800000,
         0x7f800000, 0xff800000,                         /* infinite */
         0x7fc00000, 0xffc00000, 0x7f800001, 0xff800001, 0x7fffffff, 0xffffffff /* not a number */
     };
     return patterns[below(r, (int)(sizeof patterns / sizeof *patterns))];
 }
 
-/* A finite level, above zero for digit 1. */
+/* A level that is a digit, above zero for 1: finite and outside the band. Often it is 0.25 or the one after it. */
 static uint32_t level_of(struct random *r, int digit)
 {
-    uint32_t magnitude = (uint32_t)(random_word(r) % 0x7f7fffffu) + 1;
-    return digit ? magnitude : magnitude + 0x80000000u;
+    uint32_t beyond = one_in(r, 4) ? (uint32_t)below(r, 2) : (uint32_t)(random_word(r) % (infinite - quarter));
+    return quarter + beyond + (digit ? 0 : sign);
 }
 
-/* How surely a reading gives its digit. */
+/* A level that is erased, of either sign. Often it is one of the band's ends, or at the end of the subnormal ones. */
+static uint32_t level_in_band(struct random *r)
+{
+    static const uint32_t ends[] = {0, 1, 0x007fffff, 0x00800000, 0x3e7fffff, 0x3e7fffff};
+    uint32_t magnitude = one_in(r, 2) ? ends[below(r, 6)] : (uint32_t)(random_word(r) % quarter);
+    return magnitude + (one_in(r, 2) ? 0 : sign);
+}
+
+/* How surely a reading gives its digit, or is erased. */
 enum care { ANY, MOSTLY, SURELY };
 
-static uint32_t level_for(struct random *r, int digit, enum care care)
+static uint32_t level_for(struct random *r, int digit, int erased, enum care care)
 {
     int times = care == ANY ? 4 : 1000;
     if (care != SURELY && one_in(r, times))
         return special_level(r);
     if (care != SURELY && one_in(r, times))
         return (uint32_t)random_word(r);
-    return level_of(r, digit);
+    return erased ? level_in_band(r) : level_of(r, digit);
 }
 
 /* ---- Records that receive a frame ---- */
@@ -136,11 +155,12 @@ static void put_byte(struct record *record, int byte)
     record->bytes[record->size++] = (uint8_t)byte;
 }
 
-static void put_reading(struct random *r, struct record *record, int digit, int marked, enum care care)
+/* A digit is erased by the mark, with any level beside it, or as often by a level. */
+static void put_reading(struct random *r, struct record *record, int digit, int erased, enum care care)
 {
-    int erased = marked || (care == ANY && one_in(r, 12));
-    uint32_t level = level_for(r, digit, erased ? ANY : care);
-    put_byte(record, erased);
+    int marked = erased ? one_in(r, 2) : care == ANY && one_in(r, 12);
+    uint32_t level = level_for(r, digit, erased && !marked, marked ? ANY : care);
+    put_byte(record, marked);
     for (int b = 0; b < 4; b++)
         put_byte(record, (int)(level >> 8 * b & 255));
 }
@@ -178,19 +198,24 @@ static void add_record(struct random *r, const struct record *record)
         add_byte('f');
 }
 
-/* The call by the sessions that the trace's manner has for it. */
-static void add_call(struct random *r, const struct record *record)
+/* The call by the sessions that the trace's manner has for it; where both have it, one of them by the other record. */
+static void add_calls(struct random *r, const struct record *record, const struct record *other)
 {
     int first = one_in(r, 4);
     calls++;
     if (manner == BOTH) {
         select_session(first);
-        add_record(r, record);
+        add_record(r, other);
         select_session(1 - first);
     } else if (manner == SWITCHING && one_in(r, 3)) {
         select_session(below(r, 2));
     }
     add_record(r, record);
+}
+
+static void add_call(struct random *r, const struct record *record)
+{
+    add_calls(r, record, record);
 }
 
 /* One frame to receive, most often under the card's number. Now and then its byte or one of its tags is any. */
@@ -209,26 +234,39 @@ static void add_received(struct random *r, const struct fields *card, int frame,
 /* A call that is refused: by 14, or by 11 or 12. */
 static void add_refused(struct random *r, const struct fields *card, int frame, int erased)
 {
-    static const uint8_t infinite[5] = {0, 0, 0, 0x80, 0x7f};
+    static const uint8_t not_finite[][5] = {{0, 0, 0, 0x80, 0x7f}, {0, 0, 0, 0x80, 0xff}, {0, 0, 0, 0xc0, 0x7f}};
     struct record record = record_of(r, card, card->number, frame, erased, SURELY);
     int readings = record.bytes[0] == 'r';
     if (one_in(r, 2) || (!readings && card->n == MOST_STREAMS))
         record.bytes[1] = (uint8_t)(card->number + between(r, 1, 255));
     else if (readings)
-        memcpy(record.bytes + 2 + 5 * below(r, card->n), infinite, sizeof infinite);
+        memcpy(record.bytes + 2 + 5 * below(r, card->n), not_finite[below(r, 3)], sizeof *not_finite);
     else
         record.bytes[2] = (uint8_t)(record.bytes[2] + (1 << between(r, card->n, MOST_STREAMS - 1)));
     add_call(r, &record);
 }
 
-/* A frame that is taken as it is, so that a stream stays whole; now and then a refused call before it, of which some
- * have other digits erased. */
+/* The digits that no mark erases, but a level. */
+static int erased_by_level(const struct record *record, int erased)
+{
+    int digits = 0;
+    for (int s = 0; s < 8; s++)
+        if (erased >> s & 1)
+            digits += record->bytes[2 + 5 * s] == 0;
+    return digits;
+}
+
+/* A frame that is taken as it is, so that a stream stays whole; where both sessions have it, often one of them in another
+ * form: as a byte and as levels outside the band, or with the same digits erased by marks and by levels. Now and then a
+ * refused call before it, of which some have other digits erased. */
 static void add_taken(struct random *r, const struct fields *card, int frame, int erased)
 {
     struct record record = record_of(r, card, card->number, frame, erased, SURELY);
+    struct record other = one_in(r, 2) ? record : record_of(r, card, card->number, frame, erased, SURELY);
     if (one_in(r, 8))
         add_refused(r, card, frame, one_in(r, 2) ? erased : below(r, 1 << card->n));
-    add_call(r, &record);
+    add_calls(r, &record, &other);
+    stream.erased_by_level += erased_by_level(&record, erased);
 }
 
 /* ---- Streams and mixtures ---- */
@@ -306,6 +344,7 @@ static void begin_with_stream(struct random *r, const struct fields *card, int a
     stream.count = below(r, MOST_STREAM - MOST_MEMORY);
     stream.whole = manner == BOTH || (manner == STAYING && one_in(r, 2));
     stream.session = selected;
+    stream.erased_by_level = 0;
     send_stream(r, card);
     if (accepted && stream.whole && one_in(r, 3))
         damage_at_limit(r, card);
@@ -670,12 +709,21 @@ static void count_alike(long same_calls)
     }
 }
 
-/* Call by call, as long as the calls of both sessions are the same: so must be what the program wrote for them. */
+static void count_forms(const struct place *one, const struct place *other)
+{
+    int same_kind = trace[one->record] == trace[other->record];
+    alike.byte_and_levels += !same_kind;
+    alike.unlike_readings += same_kind && !same_call(one, other);
+}
+
+/* Call by call, as long as the calls of both sessions are the same: so must be what the program wrote for them. In a
+ * stream they are the same frames, whatever their form. */
 static int as_each_other(const struct text *written)
 {
     struct place plain = at_card(written), second = plain;
-    long same_calls = 0;
-    while (next_call(&plain, 0, written) && next_call(&second, 1, written) && same_call(&plain, &second)) {
+    long same_calls = 0, same_frames = stream.whole && manner == BOTH ? stream.calls : 0;
+    while (next_call(&plain, 0, written) && next_call(&second, 1, written) &&
+           (same_calls < same_frames || same_call(&plain, &second))) {
         same_calls++;
         if (!same_line(&plain, &second, written)) {
             printf("FAILED: the receivers differ, from their call %ld on\n", same_calls);
@@ -684,6 +732,7 @@ static int as_each_other(const struct text *written)
             return 0;
         }
         alike.frames += is_frame(&plain, written);
+        count_forms(&plain, &second);
     }
     alike.calls += same_calls;
     count_alike(same_calls);
@@ -737,6 +786,7 @@ static void count_whole(void)
     whole_streams.as_sent += !stream.beyond;
     whole_streams.erased_as_sent += erased && !stream.beyond;
     whole_streams.erased_beyond += erased && stream.beyond;
+    whole_streams.erased_by_level += stream.beyond ? 0 : stream.erased_by_level;
     for (long u = 0; u < stream.count && erased; u++)
         for (int i = 1; i <= stream.card.k; i++)
             count_decision(i, u);
@@ -798,6 +848,18 @@ static void print_answers(const char *who, const struct answer_counts *answers)
     printf("\n");
 }
 
+/* Those with a sign also by themselves: the band has two sides. */
+static void print_levels(void)
+{
+    static const char *const kinds[LEVELS] = {
+        "marks", "zero", "subnormal", "others in the band", "the last in it", "0.25", "the first beyond", "others beyond"};
+    printf("readings of frames taken (with a sign):");
+    for (int level = 0; level < LEVELS; level++)
+        printf("%s %s: %ld (%ld)", level == 0 ? "" : ";", kinds[level], counts.levels[0][level] + counts.levels[1][level],
+               counts.levels[1][level]);
+    printf("\n");
+}
+
 static void print_counts(long traces)
 {
     printf("%ld traces, %ld records: %ld figures, %ld selections\n", traces, counts.records, counts.figures,
@@ -812,14 +874,18 @@ static void print_counts(long traces)
     print_answers("receiving session 0", &counts.received[0]);
     print_answers("receiving session 1", &counts.received[1]);
     print_answers("sending session", &counts.sent);
-    printf("%ld calls answered alike by sessions 0 and 1, %ld of them by a frame\n", alike.calls, alike.frames);
+    print_levels();
+    printf("%ld calls answered alike by sessions 0 and 1, %ld of them by a frame; %ld got it as a byte and as levels "
+           "outside the band, %ld as unlike readings\n",
+           alike.calls, alike.frames, alike.byte_and_levels, alike.unlike_readings);
     printf("%ld streams received whole by both, %ld of them beyond the correctable number; frames: %ld, %ld beyond\n",
            alike.streams, alike.streams_beyond, alike.stream_frames, alike.stream_frames_beyond);
     printf("%ld streams received whole by both or by one had to come out as sent\n", whole_streams.as_sent);
     printf("with erased digits: %ld of them, and %ld beyond the correctable number; decisions in which a check did not "
-           "vote: %ld, in which none did: %ld; erased information digits 1 that had to come out: %ld\n",
+           "vote: %ld, in which none did: %ld; erased information digits 1 that had to come out: %ld; digits erased by a "
+           "level where the stream had to: %ld\n",
            whole_streams.erased_as_sent, whole_streams.erased_beyond, whole_streams.some_silent,
-           whole_streams.all_silent, whole_streams.restored);
+           whole_streams.all_silent, whole_streams.restored, whole_streams.erased_by_level);
 }
 
 static int all_refused(const struct answer_counts *answers, const int numbers[3])
@@ -849,31 +915,45 @@ static int stated_enough(void)
     return enough;
 }
 
+/* Every kind on both sides of zero. */
+static int levels_enough(void)
+{
+    int enough = 1;
+    for (int level = 0; level < LEVELS; level++)
+        enough = enough && counts.levels[0][level] >= 1000 && counts.levels[1][level] >= 1000;
+    return enough;
+}
+
 static int most_beyond(void)
 {
-    return alike.streams >= 300 && 2 * alike.streams_beyond > alike.streams &&
+    return alike.streams >= 300 && alike.byte_and_levels >= 1000 && alike.unlike_readings >= 1000 &&
+           2 * alike.streams_beyond > alike.streams &&
            2 * alike.stream_frames_beyond > alike.stream_frames;
 }
 
 static int erased_enough(void)
 {
     return whole_streams.erased_as_sent >= 50 && whole_streams.erased_beyond >= 50 &&
-           whole_streams.some_silent >= 1000 && whole_streams.all_silent >= 1000 && whole_streams.restored >= 50;
+           whole_streams.some_silent >= 1000 && whole_streams.all_silent >= 1000 && whole_streams.restored >= 50 &&
+           whole_streams.erased_by_level >= 300;
 }
 
 static int tried_enough(void)
 {
-    int every = every_answer(), stated = stated_enough();
+    int every = every_answer(), stated = stated_enough(), levels = levels_enough();
     int alike_enough = against == SENT || most_beyond(), erased = against == RECEIVERS || erased_enough();
     if (!every)
         printf("FAILED: some answer or end never occurred\n");
     if (!stated)
         printf("FAILED: too few cards that state a default, or too few in some way\n");
+    if (!levels)
+        printf("FAILED: too few levels of a kind, on one side of zero or on both\n");
     if (!alike_enough)
-        printf("FAILED: too few streams for both receivers, or not most of them beyond the correctable number\n");
+        printf("FAILED: too few streams or unlike calls for both receivers, or not most of the streams beyond the "
+               "correctable number\n");
     if (!erased)
         printf("FAILED: too few streams with erased digits, or too few of a kind\n");
-    return every && stated && alike_enough && erased;
+    return every && stated && levels && alike_enough && erased;
 }
 
 int main(int argc, char **argv)
