@@ -101,7 +101,7 @@ pub(crate) fn digits() {
 }
 
 // The second frame has the level as its information digit, and 1 after it. The first three rows tell apart what it may be: erased, 1 and 0. Of the
-// others those with eight digits are the neighbours of 0.25 and -0.25, the last four the least and the largest subnormal.
+// others 0.24999999 and 0.25000003 are the neighbours of 0.25, and the last four the least and the largest subnormal.
 pub(crate) fn band() {
     tables::each(
         Kind::Receiving,

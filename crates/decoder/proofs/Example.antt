@@ -47,10 +47,10 @@ taken-at =
     record {
       quarter-taken = (refl, refl);
       quarter-outside = refl;
-      quarter-received = refl;
       faint-taken = (refl, refl);
       faint-within = refl;
-      alike-before = refl;
+      answered-alike = refl;
+      held-alike = refl;
     }
 
 -- the answers, call by call: the second circuit's session is to give the same

@@ -40,10 +40,10 @@ taken-at =
     record {
       quarter-taken = (refl, refl);
       quarter-outside = refl;
-      quarter-received = refl;
       faint-taken = (refl, refl);
       faint-within = refl;
-      alike-before = refl;
+      answered-alike = refl;
+      held-alike = refl;
     }
 
 takes : {s t : Session} → s ≡ t → (calls : List Call) {frames erased : List ℕ} → Takes secondCircuit t calls frames erased → Takes secondCircuit s calls frames erased

@@ -12,8 +12,8 @@ use Rattle.code.specs.declared.Card.{Card}
 use Rattle.majority.proofs.Edges.{erased-edges}
 use Rattle.receiving.specs.Answers.{waiting, frame}
 use Rattle.receiving.specs.Receive.{Circuit}
-use Rattle.receiving.specs.Calls.{Call, takenParts, takenFrames, takenErased, handedIn, sessionAfter, answersBy}
-use Rattle.receiving.specs.Former.{levelsInBand, formerAnswers}
+use Rattle.receiving.specs.Calls.{Call, takenParts, takenFrames, takenErased, handedIn, sessionReadBy, answersBy}
+use Rattle.receiving.specs.Former.{formerDigitOf, levelsInBand, formerAnswers}
 use Rattle.receiving.specs.Claims.{ByRule}
 use Rattle.receiving.specs.Example.{callsP, callsP-two-errors, callsP-lost, ReceivesP, quarter, faint, callsP-at, ReceivesFaintP, callsT, callsT-lost, ReceivesT}
 
@@ -21,14 +21,14 @@ use Rattle.receiving.specs.Example.{callsP, callsP-two-errors, callsP-lo
 abbrev pub Takes : {S : Type 0} → Circuit S → S → List Call → List ℕ → List ℕ → Type 0
 Takes x s calls frames erased = (takenFrames x s calls ≡ frames) × (takenErased x s calls ≡ erased)
 
--- at the edge of the band: what is taken, how many of its levels lie within, and that the two lists were answered alike before
+-- at the edge of the band: what is taken, how many of its levels lie within, and that the two lists came to the same before
 pub record TakesFaint {S : Type 0} (x : Circuit S) (s : S) : Type 0 where
   pub quarter-taken : Takes x s (callsP-at quarter) (0 ∷ 1 ∷ 0 ∷ []) (0 ∷ 0 ∷ 0 ∷ [])
   pub quarter-outside : takenParts levelsInBand x s (callsP-at quarter) ≡ 0 ∷ 0 ∷ 0 ∷ []
-  pub quarter-received : x .received (sessionAfter x s (callsP-at quarter)) ≡ 3
   pub faint-taken : Takes x s (callsP-at faint) (0 ∷ 1 ∷ 0 ∷ []) (3 ∷ 0 ∷ 0 ∷ [])
   pub faint-within : takenParts levelsInBand x s (callsP-at faint) ≡ 2 ∷ 0 ∷ 0 ∷ []
-  pub alike-before : formerAnswers x s (callsP-at faint) ≡ formerAnswers x s (callsP-at quarter)
+  pub answered-alike : formerAnswers x s (callsP-at faint) ≡ formerAnswers x s (callsP-at quarter)
+  pub held-alike : sessionReadBy formerDigitOf x s (callsP-at faint) ≡ sessionReadBy formerDigitOf x s (callsP-at quarter)
 
 module _ {S : Type 0} (x : Circuit S) (rule : Card → List ℕ → List ℕ → List ℕ) (s : S) where
   pub receives-P : ByRule x rule P s → Takes x s callsP (3 ∷ 3 ∷ 3 ∷ 2 ∷ []) (0 ∷ 0 ∷ 0 ∷ 1 ∷ []) → Takes x s callsP-two-errors (2 ∷ 2 ∷ 0 ∷ 0 ∷ []) (replicate 4 0)
@@ -52,10 +52,10 @@ module _ {S : Type 0} (x : Circuit S) (rule : Card → List ℕ → List ℕ →
       record {
         quarter-by-rule = quarter-out;
         quarter-as-before = same;
-        received-before = ap (x .received) (sym (same .same-session)) ∙ t .quarter-received;
         faint-counted = t .faint-within;
         faint-by-rule = claims .handed-by-rule (callsP-at faint) ∙ ap₂ (rule P) (t .faint-taken .0) (t .faint-taken .1) ∙ l;
-        faint-before = ap handedIn (t .alike-before ∙ sym (same .same-answers)) ∙ quarter-out;
+        faint-before = ap handedIn (t .answered-alike ∙ sym (same .same-answers)) ∙ quarter-out;
+        held-before = t .held-alike ∙ sym (same .same-session);
       }
 
   pub receives-T : ByRule x rule T s → Takes x s callsT (3 ∷ 0 ∷ 0 ∷ []) (replicate 3 0) → Takes x s callsT-lost (1 ∷ 4 ∷ 4 ∷ []) (2 ∷ 0 ∷ 0 ∷ []) → ReceivesT x s

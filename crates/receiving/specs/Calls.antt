@@ -18,7 +18,7 @@ pub data Call : Type 0 where
   byte : ℕ → ℕ → Call
   readings : ℕ → List Reading → Call
 
--- what a call hands back, where `read` tells what a reading yields, and as readings are read
+-- what a call hands back, where `read` tells what a reading yields; `replyOf` where that is `digitOf`
 unfoldable pub replyBy : {S : Type 0} → (Reading → ReadingYield) → Circuit S → S → Call → Reply S
 replyBy read x s (byte number f) = receiveByteOf x s number f
 replyBy read x s (readings number levels) = receiveReadingsBy read x s number levels
@@ -79,7 +79,7 @@ unfoldable pub handedIn : List Given → List ℕ
 handedIn [] = []
 handedIn (given ∷ later) = handedBy given ++ handedIn later
 
--- the answers, call by call
+-- the answers, call by call, where `read` tells what a reading yields; `answers` where that is `digitOf`
 unfoldable pub answersReadBy : {S : Type 0} → (Reading → ReadingYield) → Circuit S → S → List Call → List Given
 answersReadBy read x s [] = []
 answersReadBy read x s (call ∷ calls) = replyBy read x s call .answer ∷ answersReadBy read x (replyBy read x s call .session) calls
@@ -97,7 +97,7 @@ takenAnswers x s [] = []
 takenAnswers x s (call ∷ calls) =
     cond (taken (x .card s) (x .received s) call) (replyOf x s call .answer ∷ []) [] ++ takenAnswers x (replyOf x s call .session) calls
 
--- the session after the calls
+-- the session after the calls, where `read` tells what a reading yields; `sessionAfter` where that is `digitOf`
 unfoldable pub sessionReadBy : {S : Type 0} → (Reading → ReadingYield) → Circuit S → S → List Call → S
 sessionReadBy read x s [] = s
 sessionReadBy read x s (call ∷ calls) = sessionReadBy read x (replyBy read x s call .session) calls

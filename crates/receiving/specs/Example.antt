@@ -9,7 +9,7 @@ use lib.IntN.{pos, negsuc}
 use lib.Ieee.{nan, fin}
 use Rattle.receiving.specs.Answers.{waiting, frame}
 use Rattle.receiving.specs.Receive.{Circuit}
-use Rattle.receiving.specs.Calls.{Call, byte, readings, takenParts, handedIn, handedOut, takenAnswers, sessionReadBy}
+use Rattle.receiving.specs.Calls.{Call, byte, readings, takenParts, handedIn, handedOut, takenAnswers, sessionAfter, sessionReadBy}
 use Rattle.receiving.specs.Former.{formerDigitOf, levelsInBand, formerAnswers, AsBefore}
 use Rattle.receiving.specs.declared.Reading.{Reading}
 use Rattle.receiving.specs.declared.Reading.the-variants.{Level, Erased}
@@ -66,11 +66,11 @@ pub record ReceivesFaintP {S : Type 0} (x : Circuit S) (s : S) : Type 0 where
   -- minus 0.25 is a digit, and all is as before
   pub quarter-by-rule : handedOut x s (callsP-at quarter) ≡ 0 ∷ 0 ∷ []
   pub quarter-as-before : AsBefore x s (callsP-at quarter)
-  pub received-before : x .received (sessionReadBy formerDigitOf x s (callsP-at quarter)) ≡ 3
   -- the next level is erased: two levels of frame 0 lie within the band, and other frames are handed out than before
   pub faint-counted : takenParts levelsInBand x s (callsP-at faint) ≡ 2 ∷ 0 ∷ 0 ∷ []
   pub faint-by-rule : handedOut x s (callsP-at faint) ≡ 1 ∷ 1 ∷ []
   pub faint-before : handedIn (formerAnswers x s (callsP-at faint)) ≡ 0 ∷ 0 ∷ []
+  pub held-before : sessionReadBy formerDigitOf x s (callsP-at faint) ≡ sessionAfter x s (callsP-at quarter)
 
 -- what T sends for 3, information on both of its streams, with two parity digits wrong
 abbrev pub callsT : List Call

@@ -46,6 +46,8 @@ abbrev pub NoneInBand : {S : Type 0} → Circuit S → S → List Call → Type 
 NoneInBand x s calls = (t : ℕ) → getD (takenParts levelsInBand x s calls) t 0 ≡ 0
 
 -- ---- what came before
+
+-- the answers by the former reading
 abbrev pub formerAnswers : {S : Type 0} → Circuit S → S → List Call → List Given
 formerAnswers x s calls = answersReadBy formerDigitOf x s calls
 

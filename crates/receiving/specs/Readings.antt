@@ -91,7 +91,7 @@ unfoldable pub readFrameBy : (Reading → ReadingYield) → List Reading → ℕ
 readFrameBy read readings n =
     cond (ltb 0 (faultsBy read readings n)) (refuses 12) (yields (frameReadBy read readings n) (erasedReadBy read readings n))
 
--- as they are read
+-- where `read` is `digitOf`
 abbrev pub faults : List Reading → ℕ → ℕ
 faults readings n = faultsBy digitOf readings n
 

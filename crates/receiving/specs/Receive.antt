@@ -62,7 +62,7 @@ receiveOf x s number y = settledOf x s (admitOf (x .card s .number) (x .received
 unfoldable pub receiveByteOf : {S : Type 0} → Circuit S → S → ℕ → ℕ → Reply S
 receiveByteOf x s number f = receiveOf x s number (readByteOf f (streamsOf (x .card s .k) (x .card s .p)))
 
--- a frame as readings, where `read` tells what a reading yields, and as they are read
+-- a frame as readings, where `read` tells what a reading yields; `receiveReadingsOf` where that is `digitOf`
 unfoldable pub receiveReadingsBy : {S : Type 0} → (Reading → ReadingYield) → Circuit S → S → ℕ → List Reading → Reply S
 receiveReadingsBy read x s number readings = receiveOf x s number (readFrameBy read readings (streamsOf (x .card s .k) (x .card s .p)))
 

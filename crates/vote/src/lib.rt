@@ -1,5 +1,6 @@
-// Massey's majority vote on syndrome registers, for the session of the first circuit and the burst: bit a of register j is the syndrome of parity
-// stream j, the errors decided before taken out, a frames after the frame that is decided. It decides as the rule on whole streams (`majority`) does.
+// Massey's majority vote on registers, for both sessions and the burst. In the first circuit and the burst bit a of register j is the syndrome of
+// parity stream j, the errors decided before taken out, a frames after the frame that is decided; in the second it is a sum of digits. It decides as
+// the rule on whole streams (`majority`) does.
 ghost use mathlib.Core.Path.{_≡_};
 ghost use mathlib.Core.Bool.{cond};
 ghost use Prim.Native.Nat.{_*_, _<_, _≤_};
