@@ -8,6 +8,7 @@ ghost use Rattle.digit_decoder.specs.Receive.{secondCircuit};
 ghost use Rattle.receiving.specs.Answers.{answerOf};
 ghost use Rattle.receiving.specs.Answers as received;
 ghost use Rattle.receiving.specs.Example.{ReceivesP, ReceivesFaintP, ReceivesT};
+ghost use Rattle.receiving.specs.Readings.{frameYieldOf, yields};
 ghost use Rattle.encoder.specs.Example.{SendsP};
 ghost use Rattle.encoder.specs.Outcome.{published, frame};
 ghost use Rattle.clients.specs.Closed.{ReceivesNothing, SendsNothing};
@@ -94,4 +95,25 @@ pub fn p_answers_by_digits() -> digit_decoder::Received
     let opened = digit_decoder::open(&P);
     let first = digit_decoder::receive_byte(opened.session, 7, 3);
     digit_decoder::receive_readings(first.session, 7, [Reading::Level(1.0); 8])
+}
+
+// 0.25 and its neighbours below and above, and minus each, as the readings of six streams: the two neighbours towards zero are erased. What comes after
+// the sixth is not looked at.
+pub fn quarters_are_read() -> receiving::ReadFrame
+    ensures { λ r. ⌜ frameYieldOf r ≡ yields 0b101 0b10010 ⌝ }
+{
+    receiving::read_frame(
+        [
+            Reading::Level(0.25),
+            Reading::Level(0.24999999),
+            Reading::Level(0.25000003),
+            Reading::Level(-0.25),
+            Reading::Level(-0.24999999),
+            Reading::Level(-0.25000003),
+            Reading::Level(0.0f32 / 0.0f32),
+            Reading::Erased,
+        ],
+        1,
+        5,
+    )
 }

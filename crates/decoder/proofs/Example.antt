@@ -15,8 +15,8 @@ use Rattle.majority.specs.Rule.{syndrome, cleared, checkAt, voting, voters, vot
 use Rattle.receiving.specs.Answers.{waiting, frame, refused}
 use Rattle.receiving.specs.Readings.{inBand, digitOfLevel, digitOf, digitIn, markIn, faultIn, faultsBy, frameReadBy, erasedReadBy, readByteOf, readFrameBy}
 use Rattle.receiving.specs.Receive.{openOf, inTurn, admitOf, refusedOf, settledOf, receiveOf, receiveByteOf, receiveReadingsBy}
-use Rattle.receiving.specs.Calls.{Call, numberIn, frameIn, erasedIn, readable, taken, takenParts, takenFrames, takenErased, answers, answersReadBy, sessionReadBy, replyBy, answersBy}
-use Rattle.receiving.specs.Former.{formerDigitOfLevel, formerDigitOf, bandIn, levelsInBand}
+use Rattle.receiving.specs.Calls.{Call, numberIn, frameIn, erasedIn, readable, taken, takenParts, takenFrames, takenErased, answers, answersReadBy, replyBy, answersBy}
+use Rattle.receiving.specs.Former.{bandIn, levelsInBand}
 use Rattle.receiving.specs.Claims.{ByRule}
 use Rattle.receiving.specs.Example.{callsP-first, callsP, callsP-two-errors, callsP-lost, ReceivesP, ReceivesFaintP, callsT, callsT-lost, ReceivesT}
 use Rattle.receiving.proofs.Example as example
@@ -42,15 +42,13 @@ unfolding sumBelow bit fromDigits inBand digitOfLevel digitOf digitIn markIn fau
 taken-by = ((refl, refl), (refl, refl), (refl, refl), (refl, refl), (refl, refl), (refl, refl))
 
 taken-at : TakesFaint firstCircuit (openOf firstCircuit P)
-unfolding sumBelow bit fromDigits inBand digitOfLevel digitOf digitIn markIn faultIn faultsBy frameReadBy erasedReadBy readByteOf readFrameBy openOf withFrame handingOf takenOf inTurn admitOf refusedOf settledOf receiveOf receiveByteOf receiveReadingsBy numberIn frameIn erasedIn readable taken takenParts replyBy formerDigitOfLevel formerDigitOf bandIn levelsInBand answersReadBy sessionReadBy
+unfolding sumBelow bit fromDigits inBand digitOfLevel digitOf digitIn markIn faultIn faultsBy frameReadBy erasedReadBy readByteOf readFrameBy openOf withFrame handingOf takenOf inTurn admitOf refusedOf settledOf receiveOf receiveByteOf receiveReadingsBy numberIn frameIn erasedIn readable taken takenParts replyBy bandIn levelsInBand
 taken-at =
     record {
       quarter-taken = (refl, refl);
       quarter-outside = refl;
       faint-taken = (refl, refl);
       faint-within = refl;
-      answered-alike = refl;
-      held-alike = refl;
     }
 
 -- the answers, call by call: the second circuit's session is to give the same

@@ -13,8 +13,8 @@ use Rattle.majority.specs.Rule.{voting, voters}
 use Rattle.majority.specs.SecondCircuit.{entering, vote, votesForOne, decideDigit, decideDigits, decidedDigits, decodedByDigits}
 use Rattle.receiving.specs.Readings.{inBand, digitOfLevel, digitOf, digitIn, markIn, faultIn, faultsBy, frameReadBy, erasedReadBy, readByteOf, readFrameBy}
 use Rattle.receiving.specs.Receive.{openOf, inTurn, admitOf, refusedOf, settledOf, receiveOf, receiveByteOf, receiveReadingsBy}
-use Rattle.receiving.specs.Calls.{Call, numberIn, frameIn, erasedIn, readable, taken, takenParts, takenFrames, takenErased, answersReadBy, sessionReadBy, replyBy, answersBy}
-use Rattle.receiving.specs.Former.{formerDigitOfLevel, formerDigitOf, bandIn, levelsInBand}
+use Rattle.receiving.specs.Calls.{Call, numberIn, frameIn, erasedIn, readable, taken, takenParts, takenFrames, takenErased, replyBy, answersBy}
+use Rattle.receiving.specs.Former.{bandIn, levelsInBand}
 use Rattle.receiving.specs.Claims.{ByRule}
 use Rattle.receiving.specs.Example.{callsP, callsP-two-errors, callsP-lost, ReceivesP, ReceivesFaintP, callsT, callsT-lost, ReceivesT}
 use Rattle.receiving.proofs.Example as example
@@ -35,15 +35,13 @@ unfolding sumBelow bit fromDigits inBand digitOfLevel digitOf digitIn markIn fau
 taken-by = ((refl, refl), (refl, refl), (refl, refl), (refl, refl), (refl, refl))
 
 taken-at : TakesFaint secondCircuit (openOf secondCircuit P)
-unfolding sumBelow bit fromDigits inBand digitOfLevel digitOf digitIn markIn faultIn faultsBy frameReadBy erasedReadBy readByteOf readFrameBy openOf withFrame handingOf takenOf inTurn admitOf refusedOf settledOf receiveOf receiveByteOf receiveReadingsBy numberIn frameIn erasedIn readable taken takenParts replyBy formerDigitOfLevel formerDigitOf bandIn levelsInBand answersReadBy sessionReadBy
+unfolding sumBelow bit fromDigits inBand digitOfLevel digitOf digitIn markIn faultIn faultsBy frameReadBy erasedReadBy readByteOf readFrameBy openOf withFrame handingOf takenOf inTurn admitOf refusedOf settledOf receiveOf receiveByteOf receiveReadingsBy numberIn frameIn erasedIn readable taken takenParts replyBy bandIn levelsInBand
 taken-at =
     record {
       quarter-taken = (refl, refl);
       quarter-outside = refl;
       faint-taken = (refl, refl);
       faint-within = refl;
-      answered-alike = refl;
-      held-alike = refl;
     }
 
 takes : {s t : Session} → s ≡ t → (calls : List Call) {frames erased : List ℕ} → Takes secondCircuit t calls frames erased → Takes secondCircuit s calls frames erased

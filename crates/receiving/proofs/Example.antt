@@ -1,34 +1,60 @@
 -- The claims of a session of any kind, each applied to card P, and the third term to T. What the calls take, and what the rule hands out for it, is computed
 -- for each kind; what the calls come to is not.
-use Prim.Native.Nat.{ℕ}
+use Prim.Native.Nat.{ℕ, zero, suc}
 use mathlib.Core.Path.{_≡_, refl, sym, ap, ap₂, _∙_}
 use mathlib.Core.List.{List, [], _∷_}
 use lib.ListN.{length, getD, replicate}
+use lib.Ieee.{nan}
 use Rattle.bits.specs.Sums.{sumBelow}
 use Rattle.bits.proofs.Sums.{all-at-most}
 use Rattle.bits.proofs.Lists.{zeros-at}
 use Rattle.code.specs.Bench.{P, T}
 use Rattle.code.specs.declared.Card.{Card}
 use Rattle.majority.proofs.Edges.{erased-edges}
-use Rattle.receiving.specs.Answers.{waiting, frame}
-use Rattle.receiving.specs.Receive.{Circuit}
-use Rattle.receiving.specs.Calls.{Call, takenParts, takenFrames, takenErased, handedIn, sessionReadBy, answersBy}
-use Rattle.receiving.specs.Former.{formerDigitOf, levelsInBand, formerAnswers}
+use Rattle.receiving.specs.Answers.{waiting, frame, Reply}
+use Rattle.receiving.specs.Readings.{readingAt}
+use Rattle.receiving.specs.declared.Reading.the-variants.{Level}
+use Rattle.receiving.specs.Receive.{Circuit, receiveOf, receiveReadingsBy}
+use Rattle.receiving.specs.Calls.{Call, byte, readings, replyBy, takenParts, takenFrames, takenErased, handedIn, answersReadBy, sessionReadBy, answersBy}
+use Rattle.receiving.specs.Former.{formerDigitOfLevel, formerDigitOf, levelsInBand, formerAnswers}
 use Rattle.receiving.specs.Claims.{ByRule}
-use Rattle.receiving.specs.Example.{callsP, callsP-two-errors, callsP-lost, ReceivesP, quarter, faint, callsP-at, ReceivesFaintP, callsT, callsT-lost, ReceivesT}
+use Rattle.receiving.proofs.Yields.{same-readings}
+use Rattle.receiving.specs.Example.{pair, callsP, callsP-two-errors, callsP-lost, ReceivesP, minusQuarter, faint, callsP-at, ReceivesFaintP, callsT, callsT-lost, ReceivesT}
 
 -- what the calls take: these frames, and which of their digits are erased
 abbrev pub Takes : {S : Type 0} → Circuit S → S → List Call → List ℕ → List ℕ → Type 0
 Takes x s calls frames erased = (takenFrames x s calls ≡ frames) × (takenErased x s calls ≡ erased)
 
--- at the edge of the band: what is taken, how many of its levels lie within, and that the two lists came to the same before
+-- at the edge of the band: what is taken, and how many of its levels lie within
 pub record TakesFaint {S : Type 0} (x : Circuit S) (s : S) : Type 0 where
-  pub quarter-taken : Takes x s (callsP-at quarter) (0 ∷ 1 ∷ 0 ∷ []) (0 ∷ 0 ∷ 0 ∷ [])
-  pub quarter-outside : takenParts levelsInBand x s (callsP-at quarter) ≡ 0 ∷ 0 ∷ 0 ∷ []
+  pub quarter-taken : Takes x s (callsP-at minusQuarter) (0 ∷ 1 ∷ 0 ∷ []) (0 ∷ 0 ∷ 0 ∷ [])
+  pub quarter-outside : takenParts levelsInBand x s (callsP-at minusQuarter) ≡ 0 ∷ 0 ∷ 0 ∷ []
   pub faint-taken : Takes x s (callsP-at faint) (0 ∷ 1 ∷ 0 ∷ []) (3 ∷ 0 ∷ 0 ∷ [])
   pub faint-within : takenParts levelsInBand x s (callsP-at faint) ≡ 2 ∷ 0 ∷ 0 ∷ []
-  pub answered-alike : formerAnswers x s (callsP-at faint) ≡ formerAnswers x s (callsP-at quarter)
-  pub held-alike : sessionReadBy formerDigitOf x s (callsP-at faint) ≡ sessionReadBy formerDigitOf x s (callsP-at quarter)
+
+-- the former reading does not tell the two levels apart
+alike : (t : ℕ) → formerDigitOf (readingAt (faint ∷ faint ∷ replicate 6 faint) t) ≡ formerDigitOf (readingAt (minusQuarter ∷ minusQuarter ∷ replicate 6 faint) t)
+unfolding formerDigitOf formerDigitOfLevel
+alike zero = refl
+alike (suc zero) = refl
+alike (suc (suc t)) = refl
+
+-- so that it brings calls at either to the same
+module _ {S : Type 0} (x : Circuit S) where
+  replied-alike : (s : S) → replyBy formerDigitOf x s (readings 7 (faint ∷ faint ∷ replicate 6 faint)) ≡ replyBy formerDigitOf x s (readings 7 (minusQuarter ∷ minusQuarter ∷ replicate 6 faint))
+  unfolding replyBy receiveReadingsBy
+  replied-alike s = ap (receiveOf x s 7) (same-readings formerDigitOf formerDigitOf _ _ _ (λ t l. alike t))
+
+  answered-alike : (s : S) → formerAnswers x s (callsP-at faint) ≡ formerAnswers x s (callsP-at minusQuarter)
+  unfolding answersReadBy
+  answered-alike s =
+      let first = replyBy formerDigitOf x s (readings 8 (replicate 8 faint)) in
+      let second = replyBy formerDigitOf x (first .session) (readings 7 (pair faint (Level nan))) in
+      ap (λ (z : Reply S). first .answer ∷ second .answer ∷ z .answer ∷ answersReadBy formerDigitOf x (z .session) (byte 7 1 ∷ byte 7 0 ∷ [])) (replied-alike _)
+
+  held-alike : (s : S) → sessionReadBy formerDigitOf x s (callsP-at faint) ≡ sessionReadBy formerDigitOf x s (callsP-at minusQuarter)
+  unfolding sessionReadBy
+  held-alike s = ap (λ (z : Reply S). sessionReadBy formerDigitOf x (z .session) (byte 7 1 ∷ byte 7 0 ∷ [])) (replied-alike _)
 
 module _ {S : Type 0} (x : Circuit S) (rule : Card → List ℕ → List ℕ → List ℕ) (s : S) where
   pub receives-P : ByRule x rule P s → Takes x s callsP (3 ∷ 3 ∷ 3 ∷ 2 ∷ []) (0 ∷ 0 ∷ 0 ∷ 1 ∷ []) → Takes x s callsP-two-errors (2 ∷ 2 ∷ 0 ∷ 0 ∷ []) (replicate 4 0)
@@ -47,15 +73,15 @@ module _ {S : Type 0} (x : Circuit S) (rule : Card → List ℕ → List ℕ →
   pub receives-faint-P : ByRule x rule P s → TakesFaint x s
       → rule P (0 ∷ 1 ∷ 0 ∷ []) (replicate 3 0) ≡ 0 ∷ 0 ∷ [] → rule P (0 ∷ 1 ∷ 0 ∷ []) (3 ∷ 0 ∷ 0 ∷ []) ≡ 1 ∷ 1 ∷ [] → ReceivesFaintP x s
   receives-faint-P claims t r l =
-      let quarter-out = claims .handed-by-rule (callsP-at quarter) ∙ ap₂ (rule P) (t .quarter-taken .0) (t .quarter-taken .1) ∙ r in
-      let same = claims .as-before (callsP-at quarter) (λ u. ap (λ (l : List ℕ). getD l u 0) (t .quarter-outside) ∙ zeros-at 3 u) in
+      let quarter-out = claims .handed-by-rule (callsP-at minusQuarter) ∙ ap₂ (rule P) (t .quarter-taken .0) (t .quarter-taken .1) ∙ r in
+      let same = claims .as-before (callsP-at minusQuarter) (λ u. ap (λ (l : List ℕ). getD l u 0) (t .quarter-outside) ∙ zeros-at 3 u) in
       record {
         quarter-by-rule = quarter-out;
         quarter-as-before = same;
         faint-counted = t .faint-within;
         faint-by-rule = claims .handed-by-rule (callsP-at faint) ∙ ap₂ (rule P) (t .faint-taken .0) (t .faint-taken .1) ∙ l;
-        faint-before = ap handedIn (t .answered-alike ∙ sym (same .same-answers)) ∙ quarter-out;
-        held-before = t .held-alike ∙ sym (same .same-session);
+        faint-before = ap handedIn (answered-alike x s ∙ sym (same .same-answers)) ∙ quarter-out;
+        held-before = held-alike x s ∙ sym (same .same-session);
       }
 
   pub receives-T : ByRule x rule T s → Takes x s callsT (3 ∷ 0 ∷ 0 ∷ []) (replicate 3 0) → Takes x s callsT-lost (1 ∷ 4 ∷ 4 ∷ []) (2 ∷ 0 ∷ 0 ∷ []) → ReceivesT x s

@@ -1,6 +1,6 @@
 -- Outside the band a reading yields what it did before R-7; so a list of calls whose frames have no level within the band gets the answers of before.
 use Prim.Native.Nat.{ℕ, zero, suc, _+_, _*_, _<_}
-use mathlib.Core.Path.{_≡_, refl, sym, ap, ap₂, _∙_}
+use mathlib.Core.Path.{_≡_, refl, sym, ap, _∙_}
 use mathlib.Core.Bool.{Bool, true, false, cond, true≢false}
 use mathlib.Core.List.{List, [], _∷_}
 use native.Mathlib.Omega.{arith}
@@ -12,17 +12,17 @@ use lib.ListN.{getD}
 use borrow.Author.Tests.{eq-eqb, lt-ltb, eqb-true, eqb-false, ltb-true, ltb-false}
 use Rattle.bits.specs.Sums.{sumBelow}
 use Rattle.bits.proofs.Sums.{sum-cong, term-le-sum}
-use Rattle.bits.proofs.Digits.{from-digits-same}
 use Rattle.code.specs.Code.{mostFrames}
 use Rattle.code.specs.Guarantees.{Guarantees}
 use Rattle.code.specs.declared.Card.{Card}
 use Rattle.receiving.specs.Answers.{Given, Reply}
-use Rattle.receiving.specs.Readings.{digit, erased, Yield, yields, refuses, streamsOf, inBand, digitOfLevel, digitOf, digitIn, markIn, faultIn, readingAt, faults, faultsBy, frameReadBy, erasedReadBy, readFrameOf, readFrameBy}
+use Rattle.receiving.specs.Readings.{digit, erased, Yield, yields, refuses, streamsOf, inBand, digitOfLevel, digitOf, faultIn, readingAt, faults, faultsBy, readFrameOf, readFrameBy}
 use Rattle.receiving.specs.Receive.{Circuit, admitOf, refusedOf, settledOf, receiveOf, receiveByteOf, receiveReadingsBy}
 use Rattle.receiving.specs.Calls.{Call, byte, readings, replyOf, replyBy, numberIn, readable, taken, takenParts, answersReadBy, sessionReadBy}
 use Rattle.receiving.specs.Former.{formerDigitOfLevel, formerDigitOf, bandIn, levelsInBand, NoneInBand, formerAnswers, AsBefore}
 use Rattle.receiving.specs.declared.Reading.{Reading}
 use Rattle.receiving.specs.declared.Reading.the-variants.{Level, Erased}
+use Rattle.receiving.proofs.Yields.{same-readings}
 use Rattle.receiving.proofs.Outcomes.{other-number, no-room}
 
 -- ---- a reading
@@ -71,21 +71,13 @@ module _ (levels : List Reading) (n : ℕ) where
   none-in-band : sumBelow n (λ s. bandIn (readingAt levels s)) ≡ 0 → (s : ℕ) → s < n → digitOf (readingAt levels s) ≡ formerDigitOf (readingAt levels s)
   none-in-band q s l = same-reading (readingAt levels s) (omega (arith, term-le-sum n (λ s. bandIn (readingAt levels s)) s l))
 
-  same-frame : sumBelow n (λ s. bandIn (readingAt levels s)) ≡ 0 → readFrameOf levels n ≡ readFrameBy formerDigitOf levels n
-  unfolding readFrameBy frameReadBy erasedReadBy
-  same-frame q =
-      rw same-faults
-      (ap₂ (λ f e. cond (ltb 0 (faults levels n)) (refuses 12) (yields f e))
-      (from-digits-same n _ _ (λ s l. ap digitIn (none-in-band q s l)))
-      (from-digits-same n _ _ (λ s l. ap markIn (none-in-band q s l))))
-
   -- a frame that is refused by 12 was refused by it, wherever its levels lie
   pub same-yield : (faults levels n ≡ 0 → sumBelow n (λ s. bandIn (readingAt levels s)) ≡ 0) → readFrameOf levels n ≡ readFrameBy formerDigitOf levels n
   unfolding readFrameBy
   same-yield outside = go (eqb (faults levels n) 0) refl
     where
       go : (b : Bool) → eqb (faults levels n) 0 ≡ b → readFrameOf levels n ≡ readFrameBy formerDigitOf levels n
-      go true q = same-frame (outside (eqb-true (faults levels n) 0 q))
+      go true q = same-readings digitOf formerDigitOf levels levels n (none-in-band (outside (eqb-true (faults levels n) 0 q)))
       go false q =
           let l : 0 < faults levels n = omega (arith, eqb-false (faults levels n) 0 q) in
           rw same-faults (rw (lt-ltb 0 (faults levels n) l))

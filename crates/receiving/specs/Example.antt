@@ -49,8 +49,8 @@ pub record ReceivesP {S : Type 0} (x : Circuit S) (s : S) : Type 0 where
   pub answers : takenAnswers x s callsP ≡ waiting ∷ frame 1 ∷ frame 0 ∷ frame 1 ∷ []
 
 -- minus 0.25, which is the digit 0, and the next level towards zero, which lies within the band
-abbrev pub quarter : Reading
-quarter = Level (fin true 1 (negsuc 1))
+abbrev pub minusQuarter : Reading
+minusQuarter = Level (fin true 1 (negsuc 1))
 
 abbrev pub faint : Reading
 faint = Level (fin true 16777215 (negsuc 25))
@@ -64,13 +64,13 @@ callsP-at level =
 -- R-7's last sentence, at the edge of its condition
 pub record ReceivesFaintP {S : Type 0} (x : Circuit S) (s : S) : Type 0 where
   -- minus 0.25 is a digit, and all is as before
-  pub quarter-by-rule : handedOut x s (callsP-at quarter) ≡ 0 ∷ 0 ∷ []
-  pub quarter-as-before : AsBefore x s (callsP-at quarter)
+  pub quarter-by-rule : handedOut x s (callsP-at minusQuarter) ≡ 0 ∷ 0 ∷ []
+  pub quarter-as-before : AsBefore x s (callsP-at minusQuarter)
   -- the next level is erased: two levels of frame 0 lie within the band, and other frames are handed out than before
   pub faint-counted : takenParts levelsInBand x s (callsP-at faint) ≡ 2 ∷ 0 ∷ 0 ∷ []
   pub faint-by-rule : handedOut x s (callsP-at faint) ≡ 1 ∷ 1 ∷ []
   pub faint-before : handedIn (formerAnswers x s (callsP-at faint)) ≡ 0 ∷ 0 ∷ []
-  pub held-before : sessionReadBy formerDigitOf x s (callsP-at faint) ≡ sessionAfter x s (callsP-at quarter)
+  pub held-before : sessionReadBy formerDigitOf x s (callsP-at faint) ≡ sessionAfter x s (callsP-at minusQuarter)
 
 -- what T sends for 3, information on both of its streams, with two parity digits wrong
 abbrev pub callsT : List Call
