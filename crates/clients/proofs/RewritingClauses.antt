@@ -21,7 +21,7 @@ use Rattle.writer.specs.Claims.{ReadsUnder}
 use Rattle.writer.proofs.Computed.{written-P, written-W, read-stored-W}
 use Rattle.listing.specs.Rewriting.{rewrittenUnder, rewritten, Rewrites}
 use Rattle.listing.proofs.Rewritten.{too-long, short}
-use Rattle.clients.proofs.ListingClauses.{front-is}
+use Rattle.listing.proofs.AtFront.{front-is}
 
 -- a stored card whose value and written form are known
 rewritten-as : (input : List ℕ) (c : Card) (form : List ℕ) → length input ≤ 2048 → ReadsUnder Former input c → written c ≡ form → rewritten input ≡ form

@@ -22,6 +22,7 @@ use Rattle.encoder.specs.Sending.{openOf, historyNext, frameNext, encode
 use Rattle.encoder.specs.Calls.{Call, information, tail, framesGiven, informationTaken, tailTaken}
 use Rattle.encoder.specs.Claims.{Claims}
 use Rattle.encoder.specs.declared.Session.{Session}
+use Rattle.encoder.proofs.Counting as counting
 use Rattle.encoder.proofs.Calls.{Taken, NotTaken, information-outcome, tail-outcome, none-after-tail, Step, information-taken, information-refused, tail-sent, tail-refused}
 
 -- the session with card c, these registers, n information frames taken and v tail frames out
@@ -130,9 +131,13 @@ module _ (c : Card) (G : Guarantees c) (calls : List Call) where
       sent-first ∙ take-all n (sent c info) (omega (arith, sent-length c info))
 
 pub calls-follow-code : (c : Card) → Guarantees c → Claims c (openOf c)
+unfolding openOf
 calls-follow-code c G =
     record {
       frames-are-sent = λ calls. sent-first c G calls ∙ ap (λ (n : ℕ). take n (sent c (informationTaken (openOf c) calls))) (sym (counted c G calls));
       frames-counted = counted c G;
       stream-is-sent = whole c G;
+      card-kept = λ calls. counting.counted calls (openOf c) .card-kept;
+      information-counted = λ calls. counting.counted calls (openOf c) .information-counted ∙ zero-add _;
+      tail-counted = λ calls. counting.counted calls (openOf c) .tail-counted ∙ zero-add _;
     }

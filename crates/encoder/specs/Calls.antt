@@ -43,3 +43,13 @@ unfoldable pub tailTaken : Session → List Call → ℕ
 tailTaken s [] = 0
 tailTaken s (information f ∷ calls) = tailTaken (sendOf s f .session) calls
 tailTaken s (tail ∷ calls) = cond (tailOut s) 0 1 + tailTaken (sendTailOf s .session) calls
+
+-- the session after the calls
+unfoldable pub sessionAfter : Session → List Call → Session
+sessionAfter s [] = s
+sessionAfter s (call ∷ calls) = sessionAfter (callOf s call .session) calls
+
+-- the answers, call by call
+unfoldable pub answers : Session → List Call → List Outcome
+answers s [] = []
+answers s (call ∷ calls) = callOf s call .outcome ∷ answers (callOf s call .session) calls

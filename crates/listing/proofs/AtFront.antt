@@ -4,7 +4,7 @@ use mathlib.Core.Path.{_≡_, sym, ap, _∙_}
 use mathlib.Core.List.{List, _++_}
 use native.Mathlib.Omega.{arith}
 use lib.ListN.{length, take, drop, length-append}
-use lib.Seq.{length-take-le}
+use lib.Seq.{length-take-le, take-append-seam, drop-append-seam}
 use Rattle.outcomes.proofs.Writing.{wrote-front}
 use Rattle.listing.specs.AtFront.{AtFront}
 use Rattle.listing.specs.Written.{WroteWhole}
@@ -26,3 +26,10 @@ module _ {room : ℕ} {bytes output after : List ℕ} {count : ℕ} (w : AtFront
 
   pub front-length : count ≡ length (take count after)
   front-length = sym (length-take-le count after front-within)
+
+  -- they are the first of it, as many as are counted, and those after them are as they were
+  pub front-is : take count after ≡ bytes
+  front-is = rw (w .count-is, w .bytes-are) (take-append-seam bytes _)
+
+  pub rest-kept : drop count after ≡ drop count output
+  rest-kept = rw (w .count-is, w .bytes-are) (drop-append-seam bytes _)

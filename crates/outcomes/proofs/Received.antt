@@ -46,7 +46,7 @@ module _ (c : Card) (input output : List ℕ) where
 -- ---- with the card's bytes
 
 -- what an accepted card guarantees, of the card by definition
-guaranteed : (bytes : List ℕ) (read : CardRead) → CardPromise Present bytes read → readCard bytes .outcome ≡ accepted → Guarantees (readCard bytes .card)
+pub guaranteed : (bytes : List ℕ) (read : CardRead) → CardPromise Present bytes read → readCard bytes .outcome ≡ accepted → Guarantees (readCard bytes .card)
 guaranteed bytes read promise e =
     subst Guarantees (ap (λ (r : CardOutcome). r .card) (promise .is-read)) (promise .guaranteed (ap (λ (r : CardOutcome). r .outcome) (promise .is-read) ∙ e))
 

@@ -45,5 +45,7 @@ module _ {S : Type 0} (x : Circuit S) (rule : Card → List ℕ → List ℕ →
               let h = handed-are calls in
               let w = as-sent info (takenFrames x s calls) (takenErased x s calls) small whole few in
               cc;
+          card-kept = λ calls. F _ _ .card-is _ _ (from-start calls .last);
+          counted = λ calls. F _ _ .received-is _ _ (from-start calls .last);
           as-before = λ calls. as-before x keeps c G calls s (F [] [] .card-is 0 s (start [] []));
         }

@@ -9,7 +9,7 @@ use lib.ListN.{length, getD}
 use Rattle.code.specs.declared.Card.{Card}
 use Rattle.majority.specs.AsSent.{Correctable}
 use Rattle.receiving.specs.Receive.{Circuit}
-use Rattle.receiving.specs.Calls.{Call, takenFrames, takenErased, handedOut, takenAnswers, answersBy}
+use Rattle.receiving.specs.Calls.{Call, takenFrames, takenErased, handedOut, takenAnswers, sessionAfter, answersBy}
 use Rattle.receiving.specs.Former.{NoneInBand, AsBefore}
 
 pub record ByRule {S : Type 0} (x : Circuit S) (rule : Card → List ℕ → List ℕ → List ℕ) (c : Card) (s : S) : Type 0 where
@@ -21,5 +21,8 @@ pub record ByRule {S : Type 0} (x : Circuit S) (rule : Card → List ℕ → Lis
   -- correctable, then it has come out as sent
   pub comes-out-as-sent : (calls : List Call) (info : List ℕ) → ((u : ℕ) → u < length info → getD info u 0 < 2 ^ c .k)
       → length (takenFrames x s calls) ≡ length info + c .m → Correctable c info (takenFrames x s calls) (takenErased x s calls) → handedOut x s calls ≡ info
+  -- the session keeps its card, and counts the frames taken: by both the next call is taken or refused
+  pub card-kept : (calls : List Call) → x .card (sessionAfter x s calls) ≡ c
+  pub counted : (calls : List Call) → x .received (sessionAfter x s calls) ≡ length (takenFrames x s calls)
   -- "Sessions whose levels all lie outside the band decode as they did"
   pub as-before : (calls : List Call) → NoneInBand x s calls → AsBefore x s calls

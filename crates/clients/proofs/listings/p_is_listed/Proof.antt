@@ -1,7 +1,7 @@
 use mathlib.Core.Path.{_∙_}
 use borrow.Author.Needs.{needs}
 use Rattle.outcomes.proofs.Example.{example}
-use Rattle.clients.proofs.ListingClauses.{front-is, rest-kept}
+use Rattle.listing.proofs.AtFront.{front-is, rest-kept}
 use Rattle.clients.proofs.listings.p_is_listed.Statement.{statement}
 use Rattle.clients.proofs.listings.p_is_listed.Tie as tie
 

@@ -1,4 +1,4 @@
-use Rattle.clients.proofs.ListingClauses.{rest-kept}
+use Rattle.listing.proofs.AtFront.{rest-kept}
 use Rattle.clients.proofs.RewritingClauses.{bytes-P, value-P}
 use borrow.Author.Needs.{needs}
 use Rattle.clients.proofs.rewritings.stored_p_is_rewritten.Statement.{statement}

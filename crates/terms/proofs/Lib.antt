@@ -1,0 +1,16 @@
+pub mod Told
+pub mod Own
+pub mod GoodCards
+pub mod Written
+pub mod Passes
+pub mod Rewriting
+pub mod Standards
+pub mod SendingCalls
+pub mod Sending
+pub mod Rule
+pub mod Calls
+pub mod Following
+pub mod Band
+pub mod Receiving
+pub mod Opening
+pub mod BurstReceiving
