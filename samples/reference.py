@@ -5,6 +5,35 @@ Made to be read, not to be fast. Streams are counted from 0; parity stream j is 
 """
 
 
+# The ranges of k, m and J, and that of n, which depends on k (document 01, "The code" and "Checks"); the defaults of k and n.
+RANGE_OF_K, RANGE_OF_M, RANGE_OF_J = range(1, 5), range(32), range(1, 17)
+DEFAULT_K, DEFAULT_N = 1, 2
+
+
+def range_of_n(k):
+    return range(k + 1, 9)
+
+
+# The refusals: document 01's two lists, and the last of document 02's R-4. Those from 12 to 17 are met by calls that are not here.
+ENDS_INSIDE_FIELD = 1
+K_OUTSIDE_RANGE = 2
+N_OUTSIDE_RANGE = 3
+M_OUTSIDE_RANGE = 4
+MAP_BIT_BEYOND_STREAMS = 5
+MASK_OUTSIDE_RANGE = 6
+J_OUTSIDE_RANGE = 7
+OWN_DIGIT_NOT_TOUCHED = 8
+ERROR_TOUCHED_EARLIER = 9
+BYTES_AFTER_LAST_CHECK = 10
+DIGIT_BEYOND_STREAMS = 11
+LEVEL_NOT_FINITE = 12
+OUTPUT_TOO_SHORT = 13
+OTHER_CARD_NUMBER = 14
+FRAMES_USED_UP = 15
+INFORMATION_AFTER_TAIL = 16
+TAIL_USED_UP = 17
+DEFAULT_STATED = 18
+
 # Under which rule a card is read: by the former one it could state k as 1 and n as 2, their defaults.
 FORMER, PRESENT = "former", "present"
 
@@ -29,7 +58,7 @@ class Fields:
         """The next field, an integer of `size` bytes. A field cut short comes before its value."""
         start, self.at = self.at, self.at + size
         if len(self.card) < self.at:
-            raise Refused(1, len(self.card))
+            raise Refused(ENDS_INSIDE_FIELD, len(self.card))
         value = int.from_bytes(self.card[start : self.at], "little")
         if value not in allowed:
             raise Refused(refusal, start)
@@ -42,13 +71,13 @@ class Fields:
         start = self.at
         value = self.field(1, allowed, refusal)
         if value == default and self.rule == PRESENT:
-            raise Refused(18, start)
+            raise Refused(DEFAULT_STATED, start)
         return value
 
     def masks(self, size, count, m):
         """A map of `size` bytes, and the masks that stand; the others are zero."""
-        stands = self.field(size, range(1 << count), 5)
-        return [self.field(4, range(1, 1 << (m + 1)), 6) if stands >> at & 1 else 0 for at in range(count)]
+        stands = self.field(size, range(1 << count), MAP_BIT_BEYOND_STREAMS)
+        return [self.field(4, range(1, 1 << (m + 1)), MASK_OUTSIDE_RANGE) if stands >> at & 1 else 0 for at in range(count)]
 
 
 class Card:
@@ -65,35 +94,35 @@ class Card:
     def read(cls, card, rule=PRESENT):
         """The card of these bytes, or its refusal."""
         fields = Fields(card, rule)
-        stands = fields.field(1, range(4), 5)
+        stands = fields.field(1, range(4), MAP_BIT_BEYOND_STREAMS)
         number = fields.field(1, range(256), None)
-        k = fields.unless_default(stands & 1, range(1, 5), 2, 1)
-        n = fields.unless_default(stands & 2, range(k + 1, 9), 3, 2)
-        if n <= k:
-            raise Refused(3, 0)  # n doesn't stand
-        m = fields.field(1, range(32), 4)
+        k = fields.unless_default(stands & 1, RANGE_OF_K, K_OUTSIDE_RANGE, DEFAULT_K)
+        n = fields.unless_default(stands & 2, range_of_n(k), N_OUTSIDE_RANGE, DEFAULT_N)
+        if n not in range_of_n(k):
+            raise Refused(N_OUTSIDE_RANGE, 0)  # n doesn't stand
+        m = fields.field(1, RANGE_OF_M, M_OUTSIDE_RANGE)
         p = n - k
         generators = fields.masks(2, k * p, m)
         made = cls(number, k, n, m, [generators[i * p : (i + 1) * p] for i in range(k)], [[] for _ in range(k)])
         for i, checks in enumerate(made.checks):
-            for _ in range(fields.field(1, range(1, 17), 7)):
+            for _ in range(fields.field(1, RANGE_OF_J, J_OUTSIDE_RANGE)):
                 start = fields.at
                 check = fields.masks(1, p, m)
                 touched = made.touched_by(check)
                 if (0, i) not in touched:
-                    raise Refused(8, start)
+                    raise Refused(OWN_DIGIT_NOT_TOUCHED, start)
                 if touched & made.touched(i) - {(0, i)}:
-                    raise Refused(9, start)
+                    raise Refused(ERROR_TOUCHED_EARLIER, start)
                 checks.append(check)
         if fields.at < len(card):
-            raise Refused(10, fields.at)
+            raise Refused(BYTES_AFTER_LAST_CHECK, fields.at)
         return made
 
     def bytes(self, state_k=False, state_n=False):
         """The card as the section "The card" lays it out; k and n stand where they are not the default, or, as only the former rule allowed,
         where they are to be stated all the same."""
         n = self.k + self.p
-        state_k, state_n = state_k or self.k != 1, state_n or n != 2
+        state_k, state_n = state_k or self.k != DEFAULT_K, state_n or n != DEFAULT_N
         head = bytes([state_k | state_n << 1, self.number])
         head += bytes([self.k] if state_k else []) + bytes([n] if state_n else []) + bytes([self.m])
         generators = [g for row in self.generators for g in row]
@@ -186,7 +215,7 @@ def listed(card, frames):
     n = card.k + card.p
     for time, frame in enumerate(frames):
         if frame >> n:
-            raise Refused(11, time)
+            raise Refused(DIGIT_BEYOND_STREAMS, time)
     handed_out = card.received(frames)
     lines = [f"card {card.number} k {card.k} n {n} m {card.m}"]
     for time, frame in enumerate(handed_out):
@@ -229,7 +258,7 @@ def self_orthogonal(last):
 
 
 # The standard cards, by their J, which is 2 at least: a single check puts nothing right.
-STANDARD = {J: card for J, card in self_orthogonal(31).items() if 2 <= J}
+STANDARD = {J: card for J, card in self_orthogonal(RANGE_OF_M[-1]).items() if 2 <= J}
 assert [card.m for card in STANDARD.values()] == [1, 3, 7, 12, 20, 30] and list(STANDARD) == [2, 3, 4, 5, 6, 7]
 assert all(Card.read(card.bytes()).bytes() == card.bytes() for card in STANDARD.values())
 

@@ -68,7 +68,7 @@ static struct {
 /* The accepted cards that were written out, and those among them on which a writer is most likely to go wrong. */
 static struct {
     long cards, zero_generator, zero_check_mask, k_above_1, p_above_1, k_and_n_default;
-    size_t longest;
+    size_t shortest, longest;
 } written;
 
 /* The cards made to state a default or to come near to it; random ones that are refused and were cards before document
@@ -87,6 +87,7 @@ static struct {
 static struct {
     struct calls calls;
     long cards, none, streams_at_limit;
+    int32_t longest;
 } standard;
 
 /* Streams for the reference's sessions: those without an erased digit that were set against bursts; those with one, and
@@ -576,6 +577,8 @@ static void count_written(const struct fields *fields, size_t length)
     written.k_above_1 += fields->k > 1;
     written.p_above_1 += fields->p > 1;
     written.k_and_n_default += fields->k == 1 && fields->n == 2;
+    if (written.cards == 1 || length < written.shortest)
+        written.shortest = length;
     if (length > written.longest)
         written.longest = length;
 }
@@ -667,10 +670,15 @@ static int checks_of_turn(long turn, uint32_t *checks)
     return 1;
 }
 
+static int has_standard_card(uint32_t checks)
+{
+    return checks >= LEAST_STANDARD_CHECKS && checks <= MOST_STANDARD_CHECKS;
+}
+
 /* A J, with every output size from none to more than enough; and its card, if there is one. */
 static void standard_card_round(struct random *r, uint32_t checks)
 {
-    int32_t count = checks >= 2 && checks <= 7 ? 5 * (int32_t)checks + 10 : 0;
+    int32_t count = has_standard_card(checks) ? 5 * (int32_t)checks + 10 : 0;
     for (int32_t room = 0; room <= 64; room++) {
         int32_t answer = call_standard(r, checks, (size_t)room);
         if (answer != (room < count ? -13 : count))
@@ -680,6 +688,8 @@ static void standard_card_round(struct random *r, uint32_t checks)
         use_standard_card(r, (int)checks);
     standard.cards += count > 0;
     standard.none += count == 0;
+    if (count > standard.longest)
+        standard.longest = count;
 }
 
 /* ---- Pairs of cards ---- */
@@ -1175,7 +1185,7 @@ static void null_pointers(void)
     if (card_write(NULL, 0, NULL, 0) != -1 || card_write(card_of_m_0, sizeof card_of_m_0, NULL, 0) != -13)
         fail("no card at all is not refused with 1 by card_write, or no room with 13");
     for (uint32_t checks = 0; checks <= 9; checks++)
-        if (standard_card(checks, NULL, 0) != (checks >= 2 && checks <= 7 ? -13 : 0))
+        if (standard_card(checks, NULL, 0) != (has_standard_card(checks) ? -13 : 0))
             fail("no room is not answered by 13, or by 0 where there is no standard card, for J %d", (int)checks);
 }
 
@@ -1241,10 +1251,10 @@ static void print_refused(const char *what, const struct calls *calls)
 
 static void print_written(void)
 {
-    printf("%ld cards written out, the longest of %zu bytes; of these %ld had a zero generator, %ld a zero mask in a check, "
+    printf("%ld cards written out, of %zu to %zu bytes; of these %ld had a zero generator, %ld a zero mask in a check, "
            "%ld k above 1, %ld p above 1, %ld k 1 and n 2\n",
-           written.cards, written.longest, written.zero_generator, written.zero_check_mask, written.k_above_1,
-           written.p_above_1, written.k_and_n_default);
+           written.cards, written.shortest, written.longest, written.zero_generator, written.zero_check_mask,
+           written.k_above_1, written.p_above_1, written.k_and_n_default);
 }
 
 static void print_stating(void)
@@ -1297,9 +1307,8 @@ static int met_by_card_write(int number)
 
 static int wrote_enough(void)
 {
-    return written.cards >= 5000 && written.longest == MOST_CARD_BYTES && written.zero_generator >= 500 &&
-           written.zero_check_mask >= 500 && written.k_above_1 >= 500 && written.p_above_1 >= 500 &&
-           written.k_and_n_default >= 500;
+    return written.cards >= 5000 && written.zero_generator >= 500 && written.zero_check_mask >= 500 &&
+           written.k_above_1 >= 500 && written.p_above_1 >= 500 && written.k_and_n_default >= 500;
 }
 
 /* Few random cards state a default, and fewer pairs are equal: a change to the card maker must not lose them. */
@@ -1338,6 +1347,11 @@ static int tried_enough(void)
         printf("FAILED: too few cards written, or too few of a kind\n");
         enough = 0;
     }
+    if (written.shortest != LEAST_CARD_BYTES || written.longest != MOST_CARD_BYTES) {
+        printf("FAILED: the cards written have %zu to %zu bytes, and should have %d to %d\n", written.shortest,
+               written.longest, LEAST_CARD_BYTES, MOST_CARD_BYTES);
+        enough = 0;
+    }
     if (!stated_enough()) {
         printf("FAILED: too few cards that state a default, or too few pairs\n");
         enough = 0;
@@ -1350,8 +1364,14 @@ static int tried_enough(void)
         printf("FAILED: too few streams with erased digits, or too few of a kind\n");
         enough = 0;
     }
-    if (standard.cards != 6 || standard.none < STANDARD_CARDS || standard.calls.refused[13] == 0) {
+    if (standard.cards != MOST_STANDARD_CHECKS - LEAST_STANDARD_CHECKS + 1 || standard.none < STANDARD_CARDS ||
+        standard.calls.refused[13] == 0) {
         printf("FAILED: not every standard card was tried, or too few J without one\n");
+        enough = 0;
+    }
+    if (standard.longest != MOST_STANDARD_CARD_BYTES) {
+        printf("FAILED: the longest standard card has %d bytes, and should have %d\n", (int)standard.longest,
+               MOST_STANDARD_CARD_BYTES);
         enough = 0;
     }
     if (counts.most_checks < MOST_CHECKS || counts.cards < 20000 || counts.streams < 5000 || counts.corrected < 500 || counts.beyond < 500) {

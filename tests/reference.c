@@ -37,7 +37,7 @@ static int refuse(struct reader *r, int number, size_t offset)
 static int read_integer(struct reader *r, size_t size, uint32_t *value)
 {
     if (r->length - r->at < size)
-        return refuse(r, 1, r->length);
+        return refuse(r, ENDS_INSIDE_FIELD, r->length);
     uint32_t worth = 1;
     *value = 0;
     for (size_t b = 0; b < size; b++) {
@@ -69,7 +69,7 @@ static int read_unless_default(struct reader *r, int stands, int low, int high, 
         return GO_ON;
     if (!read_field(r, low, high, refusal, value))
         return STOP;
-    return r->rule == PRESENT && *value == by_default ? refuse(r, 18, start) : GO_ON;
+    return r->rule == PRESENT && *value == by_default ? refuse(r, DEFAULT_STATED, start) : GO_ON;
 }
 
 /* A map of `size` bytes over `streams` places: a digit for each place, and none set beyond them. */
@@ -82,7 +82,7 @@ static int read_map(struct reader *r, size_t size, int streams, int stands[])
     for (int s = 0; s < (int)size * 8; s++) {
         stands[s] = digit_of(map, s);
         if (s >= streams && stands[s])
-            return refuse(r, 5, start);
+            return refuse(r, MAP_BIT_BEYOND_STREAMS, start);
     }
     return GO_ON;
 }
@@ -104,7 +104,7 @@ static int read_mask(struct reader *r, int m, int digits[MOST_MEMORY + 1])
             ones_above += digit;
         }
     }
-    return ones == 0 || ones_above > 0 ? refuse(r, 6, start) : GO_ON;
+    return ones == 0 || ones_above > 0 ? refuse(r, MASK_OUTSIDE_RANGE, start) : GO_ON;
 }
 
 /* Byte 0, the card's number, k, n, m. */
@@ -115,14 +115,14 @@ static int read_sizes(struct reader *r, struct fields *card)
         return STOP;
     if (!read_field(r, 0, 255, 0, &card->number))
         return STOP;
-    if (!read_unless_default(r, stands[0], 1, 4, 2, 1, &card->k))
+    if (!read_unless_default(r, stands[0], 1, MOST_INFORMATION, K_OUTSIDE_RANGE, 1, &card->k))
         return STOP;
-    if (!read_unless_default(r, stands[1], card->k + 1, 8, 3, 2, &card->n))
+    if (!read_unless_default(r, stands[1], card->k + 1, MOST_STREAMS, N_OUTSIDE_RANGE, 2, &card->n))
         return STOP;
     if (card->n < card->k + 1) /* which is so only if it doesn't stand */
-        return refuse(r, 3, 0);
+        return refuse(r, N_OUTSIDE_RANGE, 0);
     card->p = card->n - card->k;
-    return read_field(r, 0, 31, 4, &card->m);
+    return read_field(r, 0, MOST_MEMORY, M_OUTSIDE_RANGE, &card->m);
 }
 
 static int read_generators(struct reader *r, struct fields *card)
@@ -159,9 +159,9 @@ static int read_check(struct reader *r, struct fields *card, int i, int q, struc
             return STOP;
     by_check[q] = reference_touched(card, i, q);
     if (!by_check[q].error[0][i])
-        return refuse(r, 8, start);
+        return refuse(r, OWN_DIGIT_NOT_TOUCHED, start);
     if (clashes(card, i, q, by_check))
-        return refuse(r, 9, start);
+        return refuse(r, ERROR_TOUCHED_EARLIER, start);
     return GO_ON;
 }
 
@@ -169,7 +169,7 @@ static int read_checks(struct reader *r, struct fields *card)
 {
     for (int i = 1; i <= card->k; i++) {
         struct touched by_check[MOST_CHECKS + 1];
-        if (!read_field(r, 1, 16, 7, &card->J[i]))
+        if (!read_field(r, 1, MOST_CHECKS, J_OUTSIDE_RANGE, &card->J[i]))
             return STOP;
         for (int q = 1; q <= card->J[i]; q++)
             if (!read_check(r, card, i, q, by_check))
@@ -183,7 +183,7 @@ struct card_answer reference_read_card_under(enum rule rule, const uint8_t *byte
     struct reader r = {rule, bytes, length, 0, {0, 0}};
     memset(card, 0, sizeof *card);
     if (read_sizes(&r, card) && read_generators(&r, card) && read_checks(&r, card) && r.at < length)
-        refuse(&r, 10, r.at);
+        refuse(&r, BYTES_AFTER_LAST_CHECK, r.at);
     return r.fault;
 }
 
@@ -280,7 +280,7 @@ static int32_t write_into(const struct fields *card, uint8_t *output, size_t out
 {
     struct writer w = written_form(card);
     if (output_length < w.count)
-        return -13;
+        return -OUTPUT_TOO_SHORT;
     memcpy(output, w.bytes, w.count);
     return (int32_t)w.count;
 }
@@ -465,7 +465,7 @@ int32_t reference_standard_card(uint32_t checks, uint8_t *output, size_t output_
     struct touched by_check[MOST_CHECKS + 1];
     for (int a = 0; a <= MOST_MEMORY && (uint32_t)card.J[1] < checks; a++)
         try_term(&card, a, by_check);
-    if (checks < 2 || (uint32_t)card.J[1] < checks)
+    if (checks < LEAST_STANDARD_CHECKS || (uint32_t)card.J[1] < checks)
         return 0;
     card.number = card.J[1];
     return write_into(&card, output, output_length);
@@ -575,7 +575,7 @@ static int frame_of_readings(const struct reading readings[8], int n, struct fra
     for (int i = 1; i <= n; i++) {
         const struct reading *reading = &readings[i - 1];
         if (!reading->erased && !isfinite(reading->level))
-            return 12;
+            return LEVEL_NOT_FINITE;
         frame->erased[i] = reading->erased || fabsf(reading->level) < 0.25f;
         if (!frame->erased[i] && reading->level > 0)
             frame->digit[i] = 1;
@@ -601,7 +601,7 @@ static int frames_of_bytes(const uint8_t *bytes, size_t length, int streams, str
     for (size_t u = 0; u < length; u++) {
         frames[u] = frame_of_byte(bytes[u]);
         if (digit_beyond(&frames[u], streams))
-            return 11;
+            return DIGIT_BEYOND_STREAMS;
     }
     return 0;
 }
@@ -622,9 +622,9 @@ int32_t reference_burst_send(const uint8_t *card_bytes, size_t card_length, cons
         return -refusal;
     size_t count = input_length + (size_t)card.m; /* with the tail */
     if (count > MOST_FRAMES)
-        return -15;
+        return -FRAMES_USED_UP;
     if (output_length < count)
-        return -13;
+        return -OUTPUT_TOO_SHORT;
     struct frame *frames = allocate(count, sizeof *frames);
     refusal = frames_of_bytes(input, input_length, card.k, frames);
     for (size_t u = 0; u < count && !refusal; u++) {
@@ -643,10 +643,10 @@ static int32_t receive_burst(enum circuit circuit, const uint8_t *card_bytes, si
     if (refusal)
         return -refusal;
     if (input_length > MOST_FRAMES)
-        return -15;
+        return -FRAMES_USED_UP;
     size_t count = input_length > (size_t)card.m ? input_length - (size_t)card.m : 0;
     if (output_length < count)
-        return -13;
+        return -OUTPUT_TOO_SHORT;
     struct frame *received = allocate(input_length, sizeof *received);
     struct frame *decided = allocate(count, sizeof *decided);
     refusal = frames_of_bytes(input, input_length, card.n, received);
@@ -808,8 +808,8 @@ void reference_close_receiving(struct receiving *session)
 static int receiving_refusal(const struct receiving *session, int number)
 {
     if (number != session->card.number)
-        return 14;
-    return session->count == MOST_FRAMES ? 15 : 0;
+        return OTHER_CARD_NUMBER;
+    return session->count == MOST_FRAMES ? FRAMES_USED_UP : 0;
 }
 
 /* Takes a frame: the first m give 'waiting', each later one the frame m before it. */
@@ -837,7 +837,7 @@ struct answer reference_receive_byte(struct receiving *session, int number, uint
     if (refusal)
         return refused(refusal);
     struct frame frame = frame_of_byte(byte);
-    return digit_beyond(&frame, session->card.n) ? refused(11) : take(session, &frame);
+    return digit_beyond(&frame, session->card.n) ? refused(DIGIT_BEYOND_STREAMS) : take(session, &frame);
 }
 
 struct answer reference_receive_readings(struct receiving *session, int number, const struct reading readings[8])
@@ -889,17 +889,19 @@ static struct answer send_frame(struct sending *session, const struct frame *inf
 struct answer reference_send(struct sending *session, uint8_t byte)
 {
     if (session->tail > 0)
-        return refused(16);
+        return refused(INFORMATION_AFTER_TAIL);
     if (MOST_FRAMES - (session->count + 1) < session->card.m)
-        return refused(15);
+        return refused(FRAMES_USED_UP);
     struct frame information = frame_of_byte(byte);
-    return digit_beyond(&information, session->card.k) ? refused(11) : send_frame(session, &information);
+    if (digit_beyond(&information, session->card.k))
+        return refused(DIGIT_BEYOND_STREAMS);
+    return send_frame(session, &information);
 }
 
 struct answer reference_send_tail(struct sending *session)
 {
     if (session->tail == session->card.m)
-        return refused(17);
+        return refused(TAIL_USED_UP);
     struct frame zeros;
     memset(&zeros, 0, sizeof zeros);
     session->tail++;

@@ -26,15 +26,42 @@
 #include <stddef.h>
 #include <stdint.h>
 
+/* The limits. tests/header.c holds those of include/burst.h to them. */
 enum {
     MOST_INFORMATION = 4, /* k */
     MOST_STREAMS = 8,     /* n */
     MOST_PARITY = 7,      /* p = n - k, k at least 1 */
     MOST_MEMORY = 31,     /* m */
     MOST_CHECKS = 16,     /* J */
+    LEAST_CARD_BYTES = 15, /* one generator and one check of one mask: with less no check touches its own digit */
     MOST_CARD_BYTES = 1163,
     MOST_STORED_BYTES = 2048, /* of a card to be rewritten */
-    MOST_FRAMES = 1048576
+    MOST_FRAMES = 1048576,
+    LEAST_STANDARD_CHECKS = 2, /* J of standard cards */
+    MOST_STANDARD_CHECKS = 7,
+    MOST_STANDARD_CARD_BYTES = 45
+};
+
+/* The refusals: document 01's two lists, and the last of document 02's R-4. */
+enum refusal {
+    ENDS_INSIDE_FIELD = 1,
+    K_OUTSIDE_RANGE = 2,
+    N_OUTSIDE_RANGE = 3,
+    M_OUTSIDE_RANGE = 4,
+    MAP_BIT_BEYOND_STREAMS = 5,
+    MASK_OUTSIDE_RANGE = 6, /* zero, or with a bit above m */
+    J_OUTSIDE_RANGE = 7,
+    OWN_DIGIT_NOT_TOUCHED = 8,
+    ERROR_TOUCHED_EARLIER = 9, /* by an earlier check of the stream */
+    BYTES_AFTER_LAST_CHECK = 10,
+    DIGIT_BEYOND_STREAMS = 11,
+    LEVEL_NOT_FINITE = 12,
+    OUTPUT_TOO_SHORT = 13,
+    OTHER_CARD_NUMBER = 14,
+    FRAMES_USED_UP = 15,
+    INFORMATION_AFTER_TAIL = 16,
+    TAIL_USED_UP = 17,
+    DEFAULT_STATED = 18
 };
 
 /* What a link card says. */
