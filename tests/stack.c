@@ -1,4 +1,5 @@
-/* Measures how much stack a call of the library takes, and fails if it is more than burst.h says.
+/* Measures how much stack a call of the library takes, and fails if it is not less than burst.h says. The figures that
+ * burst.h has in a sentence are what was printed here; tests/header.py sets them against what is printed now.
  * (Built without sanitizers: they use the stack of whom they watch.) */
 #define _GNU_SOURCE
 #include "burst.h"
@@ -106,9 +107,9 @@ int main(void)
     }
     printf("stack: burst_send %ld bytes, burst_receive %ld, card_write %ld, standard_card %ld, burst.h says %d\n", send,
            receive, write, standard, BURST_STACK_BYTES);
-    if (send > BURST_STACK_BYTES || receive > BURST_STACK_BYTES || write > BURST_STACK_BYTES ||
-        standard > BURST_STACK_BYTES) {
-        printf("FAILED: more stack than burst.h says\n");
+    if (send >= BURST_STACK_BYTES || receive >= BURST_STACK_BYTES || write >= BURST_STACK_BYTES ||
+        standard >= BURST_STACK_BYTES) {
+        printf("FAILED: not less stack than burst.h says\n");
         return 1;
     }
     return 0;
