@@ -1,4 +1,5 @@
-"""Tries the program `list`: every sample against its stored listing, and inputs at each limit against samples/reference.py.
+"""Tries the program `list`: every sample against its stored listing; inputs at each limit, and frames several of which are refused, against
+samples/reference.py.
 
     python3 tests/listing.py PROGRAM
 """
@@ -8,10 +9,11 @@ import sys
 
 sys.dont_write_bytecode = True
 from running import SAMPLES, at_once, by_the_byte, run
-from reference import P, T, Card, framed, listing
+from reference import P, Q, R, T, Card, framed, listing
 
 LONGEST_CARD = 2048
 MOST_FRAMES = 32768
+RANDOM_INPUTS = 60
 
 # Four streams and no memory: no listing is longer than that of the most frames under it. Each parity stream repeats an information stream.
 WIDE = Card(255, 4, 8, 0, [[int(i == j) for j in range(4)] for i in range(4)], [[[int(i == j) for j in range(4)]] for i in range(4)])
@@ -57,6 +59,22 @@ def inputs():
     return given
 
 
+def refused_frames():
+    """Random frames, two or more of them with a digit beyond their streams: the first of these is named."""
+    given = {}
+    r = random.Random(1)
+    for turn in range(RANDOM_INPUTS):
+        card = r.choice((P, Q, R, T, LONG))
+        received = frames(card, r.randint(2, 60))
+        refused = sorted(r.sample(range(len(received)), r.randint(2, min(5, len(received)))))
+        for time in refused:
+            received[time] |= 1 << r.randint(card.k + card.p, 7)
+        name = f"input {turn}, frames with a digit too many at {refused}"
+        given[name] = framed(card.bytes(), received)
+        assert listing(given[name]) == b"refused 11 at %d\n" % refused[0]
+    return given
+
+
 def difference(wrote, wanted):
     """The first line in which they differ."""
     wrote, wanted = wrote.split(b"\n"), wanted.split(b"\n")
@@ -70,9 +88,9 @@ def main():
         sys.exit("usage: python3 tests/listing.py PROGRAM")
     program = sys.argv[1]
     samples = {path.name: path.read_bytes() for path in sorted(SAMPLES.glob("*.bin"))}
-    limits = inputs()
+    limits, refused = inputs(), refused_frames()
     wanted = {name: (SAMPLES / name).with_suffix(".txt").read_bytes() for name in samples}
-    wanted.update((name, listing(given)) for name, given in limits.items())
+    wanted.update((name, listing(given)) for name, given in {**limits, **refused}.items())
     failures = []
 
     def hold(name, came, listed, should_say=b""):
@@ -82,7 +100,7 @@ def main():
         if said != should_say:
             failures.append(f"{name}: standard error has {said.decode(errors='replace')!r}, and should have {should_say.decode()!r}")
 
-    for name, given in {**samples, **limits}.items():
+    for name, given in {**samples, **limits, **refused}.items():
         hold(name, run(program, at_once(given)), wanted[name])
         hold(name + ", a byte at a time", run(program, by_the_byte(given)), wanted[name])
     # A read that fails counts as the end of the input.
@@ -95,7 +113,7 @@ def main():
         print("FAILED: list: " + failure)
     if failures:
         sys.exit(1)
-    print(f"list: {len(samples)} samples and {len(limits)} inputs at the limits, at once and a byte at a time")
+    print(f"list: {len(samples)} samples, {len(limits)} inputs at the limits and {len(refused)} with refused frames, at once and a byte at a time")
 
 
 main()
