@@ -1,6 +1,14 @@
 # What ./listing and ./rewrite-cards share. Each sets `script`, its name, and has a function `usage`; then it sources this file.
 root=$(cd "$(dirname "${BASH_SOURCE[0]}")/.." && pwd)
 
+# A file's name as it is shown: as it stands, or quoted as bash does it where it has a control character, so that a line stays a line.
+shown() { # NAME
+    case $1 in
+    *[[:cntrl:]]*) printf '%q' "$1" ;;
+    *) printf '%s' "$1" ;;
+    esac
+}
+
 misused() {
     printf '%s: %s\n\n' "$script" "$1" >&2
     usage >&2
