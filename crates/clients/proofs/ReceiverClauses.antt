@@ -13,7 +13,7 @@ use Rattle.card.specs.Reading.{readCard}
 use Rattle.card.specs.declared.CardRule.the-variants.{Present}
 use Rattle.card.proofs.RefusedCard.{refused-card}
 use Rattle.receiving.specs.Answers.{Given, waiting, frame, answerOf, Reply}
-use Rattle.receiving.specs.Calls.{numberIn, replyBy, answersReadBy, sessionReadBy}
+use Rattle.receiving.specs.Calls.{numberIn, replyOf, answers, sessionAfter}
 use Rattle.receiving.specs.Example.{one, ReceivesP, ReceivesFaintP, ReceivesT}
 use Rattle.receiving.specs.Opening.{countedAt, Opens}
 use Rattle.receiving.specs.Receive.{Circuit, openOf, refusedOf, receiveByteOf, receiveReadingsOf}
@@ -81,7 +81,7 @@ module _ (r : Opened) (promise : OpenPromise cardP r) where
   -- the link figure after a byte and readings, each a call of its own
   pub figure-after : (first second : Received) (f : ℕ) → receivedOf first ≡ receiveByteOf firstCircuit (r .session) 7 3
       → receivedOf second ≡ receiveReadingsOf firstCircuit (first .session) 7 (replicate 8 one) → f ≡ linkFigureOf (second .session) → f ≡ 1
-  unfolding sessionReadBy replyBy
+  unfolding sessionAfter replyOf
   figure-after first second f a b e =
       e ∙ ap (λ (x : Reply Session). linkFigureOf (x .session)) b
       ∙ ap (λ (x : Reply Session). linkFigureOf (receiveReadingsOf firstCircuit (x .session) 7 (replicate 8 one) .session)) a
@@ -114,7 +114,7 @@ module _ (r : digit-opened.Opened) (promise : digit-opening.OpenPromise cardP r)
   -- the answer to readings after a byte, each a call of its own
   pub answer-after : (first second : digit-received.Received) → digit-opening.receivedOf first ≡ receiveByteOf secondCircuit (r .session) 7 3
       → digit-opening.receivedOf second ≡ receiveReadingsOf secondCircuit (first .session) 7 (replicate 8 one) → answerOf (second .answer) ≡ frame 1
-  unfolding answersReadBy replyBy
+  unfolding answers replyOf
   answer-after first second a b =
       ap (λ (x : Reply digit-session.Session). x .answer) b
       ∙ ap (λ (x : Reply digit-session.Session). receiveReadingsOf secondCircuit (x .session) 7 (replicate 8 one) .answer) a

@@ -13,7 +13,7 @@ use Rattle.code.specs.Registers.{generatorMask, shiftIn, historyBy, parityBy, d
 use Rattle.card.specs.Bench.{cardP}
 use Rattle.card.specs.Outcome.{CardOutcome}
 use Rattle.vote.specs.Voting.{checkBy, votesBy, majorityBy, decideBy}
-use Rattle.receiving.specs.Calls.{replyBy, answersReadBy, handedBy, handedIn}
+use Rattle.receiving.specs.Calls.{replyOf, answers, handedBy, handedIn}
 use Rattle.receiving.specs.Opening as receiver
 use Rattle.receiving.specs.Readings.{readByteOf}
 use Rattle.receiving.specs.Receive as received
@@ -60,7 +60,7 @@ abbrev information : List ℕ
 information = 1 ∷ 2 ∷ 0 ∷ 1 ∷ []
 
 frames-out : (receiving.framesOf (received.openOf firstCircuit P) oneWrong ≡ 1 ∷ 0 ∷ 1 ∷ []) × (receiving.framesOf (received.openOf firstCircuit P) oneRefused ≡ 1 ∷ 0 ∷ 1 ∷ [])
-unfolding sumBelow xorBelow upTo bit fromDigits dot shiftUp generatorMask shiftIn historyBy parityBy movedOn checkBy votesBy majorityBy decideBy erasedWith erasedMoved syndromeBy withSyndromes errorsBy correctedDigit correctedBy feedbackBy clearedBy takenOutBy fedBackBy heldWith errorsIn heldAfter errorsOf readByteOf received.openOf withFrame handingOf takenOf received.inTurn received.admitOf received.refusedOf received.settledOf received.receiveOf received.receiveByteOf replyBy handedBy handedIn answersReadBy
+unfolding sumBelow xorBelow upTo bit fromDigits dot shiftUp generatorMask shiftIn historyBy parityBy movedOn checkBy votesBy majorityBy decideBy erasedWith erasedMoved syndromeBy withSyndromes errorsBy correctedDigit correctedBy feedbackBy clearedBy takenOutBy fedBackBy heldWith errorsIn heldAfter errorsOf readByteOf received.openOf withFrame handingOf takenOf received.inTurn received.admitOf received.refusedOf received.settledOf received.receiveOf received.receiveByteOf replyOf handedBy handedIn answers
 frames-out = (refl, refl)
 
 frames-sent : sending.framesOf (sent.openOf P) information ≡ 3 ∷ 2 ∷ 3 ∷ 2 ∷ []

@@ -11,12 +11,12 @@ use Rattle.code.specs.Checks.{count, checkMask, touchesInfo, touchesBy, besides
 use Rattle.code.specs.Judging.{clashes, judge}
 use Rattle.code.specs.Registers.{generatorMask, shiftIn, historyBy, parityBy, withDigits, movedOn}
 use Rattle.vote.specs.Voting.{checkBy, votesBy, majorityBy, decideBy}
+use Rattle.majority.specs.AsSent.{Correctable}
 use Rattle.majority.specs.Rule.{syndrome, cleared, checkAt, voting, voters, votes, decide, decideFrame, decided, corrected, decoded, figureBy}
 use Rattle.receiving.specs.Answers.{waiting, frame, refused}
-use Rattle.receiving.specs.Readings.{inBand, digitOfLevel, digitOf, digitIn, markIn, faultIn, faultsBy, frameReadBy, erasedReadBy, readByteOf, readFrameBy}
-use Rattle.receiving.specs.Receive.{openOf, inTurn, admitOf, refusedOf, settledOf, receiveOf, receiveByteOf, receiveReadingsBy}
-use Rattle.receiving.specs.Calls.{Call, numberIn, frameIn, erasedIn, readable, taken, takenParts, takenFrames, takenErased, answers, answersReadBy, replyBy, answersBy}
-use Rattle.receiving.specs.Former.{bandIn, levelsInBand}
+use Rattle.receiving.specs.Readings.{inBand, digitOfLevel, digitOf, digitIn, markIn, faultIn, faults, frameRead, erasedRead, readByteOf, readFrameOf}
+use Rattle.receiving.specs.Receive.{openOf, inTurn, admitOf, refusedOf, settledOf, receiveOf, receiveByteOf, receiveReadingsOf}
+use Rattle.receiving.specs.Calls.{Call, numberIn, frameIn, erasedIn, readable, taken, takenParts, takenFrames, takenErased, answers, replyOf, answersBy}
 use Rattle.receiving.specs.Claims.{ByRule}
 use Rattle.receiving.specs.Example.{callsP-first, callsP, callsP-two-errors, callsP-lost, ReceivesP, ReceivesFaintP, callsT, callsT-lost, ReceivesT}
 use Rattle.receiving.proofs.Example as example
@@ -38,22 +38,20 @@ taken-by : Takes firstCircuit (openOf firstCircuit P) callsP (3 ∷ 3 ∷ 3 ∷ 
     × Takes firstCircuit (openOf firstCircuit P) callsP-lost (0 ∷ 1 ∷ 0 ∷ []) (3 ∷ 0 ∷ 0 ∷ [])
     × Takes firstCircuit (openOf firstCircuit T) callsT (3 ∷ 0 ∷ 0 ∷ []) (0 ∷ 0 ∷ 0 ∷ [])
     × Takes firstCircuit (openOf firstCircuit T) callsT-lost (1 ∷ 4 ∷ 4 ∷ []) (2 ∷ 0 ∷ 0 ∷ [])
-unfolding sumBelow bit fromDigits inBand digitOfLevel digitOf digitIn markIn faultIn faultsBy frameReadBy erasedReadBy readByteOf readFrameBy openOf withFrame handingOf takenOf inTurn admitOf refusedOf settledOf receiveOf receiveByteOf receiveReadingsBy numberIn frameIn erasedIn readable taken takenParts replyBy
+unfolding sumBelow bit fromDigits inBand digitOfLevel digitOf digitIn markIn faultIn faults frameRead erasedRead readByteOf readFrameOf openOf withFrame handingOf takenOf inTurn admitOf refusedOf settledOf receiveOf receiveByteOf receiveReadingsOf numberIn frameIn erasedIn readable taken takenParts replyOf
 taken-by = ((refl, refl), (refl, refl), (refl, refl), (refl, refl), (refl, refl), (refl, refl))
 
 taken-at : TakesFaint firstCircuit (openOf firstCircuit P)
-unfolding sumBelow bit fromDigits inBand digitOfLevel digitOf digitIn markIn faultIn faultsBy frameReadBy erasedReadBy readByteOf readFrameBy openOf withFrame handingOf takenOf inTurn admitOf refusedOf settledOf receiveOf receiveByteOf receiveReadingsBy numberIn frameIn erasedIn readable taken takenParts replyBy bandIn levelsInBand
+unfolding sumBelow bit fromDigits inBand digitOfLevel digitOf digitIn markIn faultIn faults frameRead erasedRead readByteOf readFrameOf openOf withFrame handingOf takenOf inTurn admitOf refusedOf settledOf receiveOf receiveByteOf receiveReadingsOf numberIn frameIn erasedIn readable taken takenParts replyOf
 taken-at =
     record {
       quarter-taken = (refl, refl);
-      quarter-outside = refl;
       faint-taken = (refl, refl);
-      faint-within = refl;
     }
 
 -- the answers, call by call: the second circuit's session is to give the same
 pub answers-P : answers firstCircuit (openOf firstCircuit P) callsP ≡ waiting ∷ frame 1 ∷ refused 14 ∷ refused 11 ∷ frame 0 ∷ refused 14 ∷ refused 12 ∷ frame 1 ∷ []
-unfolding sumBelow xorBelow upTo back bit fromDigits dot shiftUp generator touchesInfo touchesBy besides clashes judge generatorMask shiftIn historyBy parityBy withDigits movedOn checkBy votesBy majorityBy decideBy holds masksAt votingBy votersBy onesBy majorityVotingBy decideVotingBy erasedWith erasedMoved syndromeBy withSyndromes errorsBy correctedDigit correctedBy feedbackBy clearedBy takenOutBy fedBackBy heldWith errorsIn heldAfter errorsOf inBand digitOfLevel digitOf digitIn markIn faultIn faultsBy frameReadBy erasedReadBy readByteOf readFrameBy openOf withFrame handingOf takenOf inTurn admitOf refusedOf settledOf receiveOf receiveByteOf receiveReadingsBy replyBy answersReadBy
+unfolding sumBelow xorBelow upTo back bit fromDigits dot shiftUp generator touchesInfo touchesBy besides clashes judge generatorMask shiftIn historyBy parityBy withDigits movedOn checkBy votesBy majorityBy decideBy holds masksAt votingBy votersBy onesBy majorityVotingBy decideVotingBy erasedWith erasedMoved syndromeBy withSyndromes errorsBy correctedDigit correctedBy feedbackBy clearedBy takenOutBy fedBackBy heldWith errorsIn heldAfter errorsOf inBand digitOfLevel digitOf digitIn markIn faultIn faults frameRead erasedRead readByteOf readFrameOf openOf withFrame handingOf takenOf inTurn admitOf refusedOf settledOf receiveOf receiveByteOf receiveReadingsOf replyOf answers
 answers-P = refl
 
 takes : {s t : Session} → s ≡ t → (calls : List Call) {frames erased : List ℕ} → Takes firstCircuit t calls frames erased → Takes firstCircuit s calls frames erased
@@ -69,7 +67,7 @@ module _ (s : Session) (own : s ≡ openOf firstCircuit P) (claims : Claims P s)
   pub receives-faint-P : ReceivesFaintP firstCircuit s
   unfolding sumBelow upTo back grown bit fromDigits generator digit parityAt count checkMask touchesInfo touchesBy besides clashes syndrome cleared checkAt voting voters votes decide decideFrame decided corrected decoded
   receives-faint-P =
-      let by-rule = subst (ByRule firstCircuit decoded P) own (claims .by-rule) in
+      let by-rule = subst (ByRule firstCircuit decoded Correctable P) own (claims .by-rule) in
       subst (ReceivesFaintP firstCircuit) (sym own) (example.receives-faint-P firstCircuit decoded (openOf firstCircuit P) by-rule taken-at refl refl)
 
   pub figure-P : FigureOfP s

@@ -17,6 +17,7 @@ use Rattle.code.specs.Guarantees.{Guarantees}
 use Rattle.code.specs.Registers.{historyBy}
 use Rattle.code.specs.declared.Card.{Card}
 use Rattle.code.proofs.Registers.{HistoryBefore, HistoryWith, history-start, history-later, history-next}
+use Rattle.majority.specs.AsSent.{Correctable}
 use Rattle.majority.specs.Rule.{cleared, decideFrame, decided, decoded, figureBy}
 use Rattle.majority.proofs.Streams.{decoded-length, decoded-at}
 use Rattle.majority.proofs.Theorem.{decoded-as-sent}
@@ -24,7 +25,6 @@ use Rattle.receiving.specs.Answers.{frame, Reply}
 use Rattle.receiving.specs.Readings.{streamsOf}
 use Rattle.receiving.specs.Receive.{kOf, pOf, placeOf, openOf}
 use Rattle.receiving.specs.Calls.{Call, takenFrames, takenErased, sessionAfter, answersBy}
-use Rattle.receiving.proofs.Outcomes.{turn-keeps}
 use Rattle.receiving.proofs.Follow.{Follows}
 use Rattle.receiving.proofs.Turns.{InTurn, in-turn}
 use Rattle.receiving.proofs.ByRule.{from-start, follows-rule}
@@ -62,11 +62,6 @@ module _ (c : Card) (G : Guarantees c) (h y : List ℕ) (e : Erased) (n : ℕ) w
       ≡ record { answer = frame (correctedBy h errors (c .k) (c .m)); session = session c h (fedBackBy y (c .generators) errors (c .k) (c .p)) (erasedMoved e) n }
   unfolding handingOf errorsOf errorsIn heldAfter
   hands-out errors q = cc (k-is, p-is, q)
-
--- the card stays
-keeps : (s : Session) (f e : ℕ) → takenOf s f e .session .card ≡ s .card
-unfolding takenOf withFrame handingOf
-keeps s f e = turn-keeps (s .received) (s .card .m) (withFrame s f e) handingOf (λ (s : Session). s .card) refl
 
 -- ---- the session before the frame of time t, and with it
 pub record Before (c : Card) (G : Guarantees c) (frames erased : List ℕ) (t : ℕ) (s : Session) : Type 0 where
@@ -200,6 +195,6 @@ module _ (c : Card) (G : Guarantees c) where
   pub claims-of : Claims c (openOf firstCircuit c)
   claims-of =
       record {
-        by-rule = follows-rule firstCircuit decoded c G (openOf firstCircuit c) (decoded-length c) (follows c G) (start c G) (decoded-as-sent c G) keeps;
+        by-rule = follows-rule firstCircuit decoded c G (openOf firstCircuit c) (decoded-length c) (follows c G) (start c G) Correctable (decoded-as-sent c G);
         figure-by-rule = figure-follows;
       }

@@ -4,6 +4,7 @@
 use mathlib.Core.Path.{_≡_}
 use mathlib.Core.List.{List}
 use Rattle.code.specs.declared.Card.{Card}
+use Rattle.majority.specs.AsSent.{Correctable}
 use Rattle.majority.specs.Rule.{decoded, figureBy}
 use Rattle.receiving.specs.Calls.{Call, takenFrames, takenErased, sessionAfter}
 use Rattle.receiving.specs.Claims.{ByRule}
@@ -12,7 +13,7 @@ use Rattle.decoder.specs.declared.Session.{Session}
 
 pub record Claims (c : Card) (s : Session) : Type 0 where
   -- the rule and the third term
-  pub by-rule : ByRule firstCircuit decoded c s
+  pub by-rule : ByRule firstCircuit decoded Correctable c s
   -- the link figure is the rule's
   pub figure-by-rule : (calls : List Call)
       → linkFigureOf (sessionAfter firstCircuit s calls) ≡ figureBy c (takenFrames firstCircuit s calls) (takenErased firstCircuit s calls)

@@ -9,12 +9,12 @@ use Rattle.code.specs.Bench.{P, T}
 use Rattle.code.specs.Code.{generator, digit}
 use Rattle.code.specs.Checks.{count, checkMask, touchesInfo, touchesBy, besides}
 use Rattle.code.specs.Judging.{clashes}
+use Rattle.majority.specs.AsSent.{Correctable}
 use Rattle.majority.specs.Rule.{voting, voters}
 use Rattle.majority.specs.SecondCircuit.{entering, vote, votesForOne, decideDigit, decideDigits, decidedDigits, decodedByDigits}
-use Rattle.receiving.specs.Readings.{inBand, digitOfLevel, digitOf, digitIn, markIn, faultIn, faultsBy, frameReadBy, erasedReadBy, readByteOf, readFrameBy}
-use Rattle.receiving.specs.Receive.{openOf, inTurn, admitOf, refusedOf, settledOf, receiveOf, receiveByteOf, receiveReadingsBy}
-use Rattle.receiving.specs.Calls.{Call, numberIn, frameIn, erasedIn, readable, taken, takenParts, takenFrames, takenErased, replyBy, answersBy}
-use Rattle.receiving.specs.Former.{bandIn, levelsInBand}
+use Rattle.receiving.specs.Readings.{inBand, digitOfLevel, digitOf, digitIn, markIn, faultIn, faults, frameRead, erasedRead, readByteOf, readFrameOf}
+use Rattle.receiving.specs.Receive.{openOf, inTurn, admitOf, refusedOf, settledOf, receiveOf, receiveByteOf, receiveReadingsOf}
+use Rattle.receiving.specs.Calls.{Call, numberIn, frameIn, erasedIn, readable, taken, takenParts, takenFrames, takenErased, replyOf, answersBy}
 use Rattle.receiving.specs.Claims.{ByRule}
 use Rattle.receiving.specs.Example.{callsP, callsP-two-errors, callsP-lost, ReceivesP, ReceivesFaintP, callsT, callsT-lost, ReceivesT}
 use Rattle.receiving.proofs.Example as example
@@ -31,17 +31,15 @@ taken-by : Takes secondCircuit (openOf secondCircuit P) callsP (3 ∷ 3 ∷ 3 �
     × Takes secondCircuit (openOf secondCircuit P) callsP-lost (0 ∷ 1 ∷ 0 ∷ []) (3 ∷ 0 ∷ 0 ∷ [])
     × Takes secondCircuit (openOf secondCircuit T) callsT (3 ∷ 0 ∷ 0 ∷ []) (0 ∷ 0 ∷ 0 ∷ [])
     × Takes secondCircuit (openOf secondCircuit T) callsT-lost (1 ∷ 4 ∷ 4 ∷ []) (2 ∷ 0 ∷ 0 ∷ [])
-unfolding sumBelow bit fromDigits inBand digitOfLevel digitOf digitIn markIn faultIn faultsBy frameReadBy erasedReadBy readByteOf readFrameBy openOf withFrame handingOf takenOf inTurn admitOf refusedOf settledOf receiveOf receiveByteOf receiveReadingsBy numberIn frameIn erasedIn readable taken takenParts replyBy
+unfolding sumBelow bit fromDigits inBand digitOfLevel digitOf digitIn markIn faultIn faults frameRead erasedRead readByteOf readFrameOf openOf withFrame handingOf takenOf inTurn admitOf refusedOf settledOf receiveOf receiveByteOf receiveReadingsOf numberIn frameIn erasedIn readable taken takenParts replyOf
 taken-by = ((refl, refl), (refl, refl), (refl, refl), (refl, refl), (refl, refl))
 
 taken-at : TakesFaint secondCircuit (openOf secondCircuit P)
-unfolding sumBelow bit fromDigits inBand digitOfLevel digitOf digitIn markIn faultIn faultsBy frameReadBy erasedReadBy readByteOf readFrameBy openOf withFrame handingOf takenOf inTurn admitOf refusedOf settledOf receiveOf receiveByteOf receiveReadingsBy numberIn frameIn erasedIn readable taken takenParts replyBy bandIn levelsInBand
+unfolding sumBelow bit fromDigits inBand digitOfLevel digitOf digitIn markIn faultIn faults frameRead erasedRead readByteOf readFrameOf openOf withFrame handingOf takenOf inTurn admitOf refusedOf settledOf receiveOf receiveByteOf receiveReadingsOf numberIn frameIn erasedIn readable taken takenParts replyOf
 taken-at =
     record {
       quarter-taken = (refl, refl);
-      quarter-outside = refl;
       faint-taken = (refl, refl);
-      faint-within = refl;
     }
 
 takes : {s t : Session} → s ≡ t → (calls : List Call) {frames erased : List ℕ} → Takes secondCircuit t calls frames erased → Takes secondCircuit s calls frames erased
@@ -57,7 +55,7 @@ module _ (s : Session) (own : s ≡ openOf secondCircuit P) (claims : Claims P s
   pub receives-faint-P : ReceivesFaintP secondCircuit s
   unfolding sumBelow upTo back grown bit fromDigits generator digit count checkMask touchesInfo touchesBy besides clashes voting voters entering vote votesForOne decideDigit decideDigits decidedDigits decodedByDigits
   receives-faint-P =
-      let by-rule = subst (ByRule secondCircuit decodedByDigits P) own (claims .by-rule) in
+      let by-rule = subst (ByRule secondCircuit decodedByDigits Correctable P) own (claims .by-rule) in
       subst (ReceivesFaintP secondCircuit) (sym own) (example.receives-faint-P secondCircuit decodedByDigits (openOf secondCircuit P) by-rule taken-at refl refl)
 
   -- every call is answered as the first circuit's session answers it

@@ -13,6 +13,7 @@ use Rattle.code.specs.Guarantees.{Guarantees}
 use Rattle.code.specs.Registers.{withDigits, movedOn}
 use Rattle.code.specs.declared.Card.{Card}
 use Rattle.code.proofs.StreamRegisters.{DigitsAt, digits-start, digits-next, digits-moved}
+use Rattle.majority.specs.AsSent.{Correctable}
 use Rattle.majority.specs.Rule.{decoded}
 use Rattle.majority.specs.SecondCircuit.{decideDigits, decidedDigits, decodedByDigits}
 use Rattle.majority.proofs.SecondCircuit.{digits-length, digits-at, circuits-agree}
@@ -21,7 +22,6 @@ use Rattle.receiving.specs.Answers.{waiting, frame, Reply}
 use Rattle.receiving.specs.Readings.{streamsOf}
 use Rattle.receiving.specs.Receive.{placeOf, openOf}
 use Rattle.receiving.specs.Calls.{Call, takenFrames, takenErased, answers, answersBy}
-use Rattle.receiving.proofs.Outcomes.{turn-keeps}
 use Rattle.receiving.proofs.Follow.{Follows, agree}
 use Rattle.receiving.proofs.Turns.{InTurn, in-turn}
 use Rattle.receiving.proofs.ByRule.{follows-rule}
@@ -55,11 +55,6 @@ module _ (c : Card) (G : Guarantees c) (r d : List ℕ) (e : Erased) (n : ℕ) w
       let k-is : min (c .k) 4 ≡ c .k = omega (arith, G .k-most) in
       let p-is : min (c .p) 8 ≡ c .p = omega (arith, G .n-most) in
       cc (k-is, p-is, q)
-
--- the card stays
-keeps : (s : Session) (f e : ℕ) → takenOf s f e .session .card ≡ s .card
-unfolding takenOf withFrame handingOf
-keeps s f e = turn-keeps (s .received) (s .card .m) (withFrame s f e) handingOf (λ (s : Session). s .card) refl
 
 -- ---- the session before the frame of time t, and with it
 pub record Before (c : Card) (G : Guarantees c) (frames erased : List ℕ) (t : ℕ) (s : Session) : Type 0 where
@@ -189,7 +184,7 @@ agreed c G calls =
 pub claims-of : (c : Card) → Guarantees c → Claims c (openOf secondCircuit c)
 claims-of c G =
     record {
-      by-rule = follows-rule secondCircuit decodedByDigits c G (openOf secondCircuit c) (handed-length c G) (follows c G) (start c G)
-          (λ info frames erased small whole few. circuits-agree c G frames erased ∙ decoded-as-sent c G info frames erased small whole few) keeps;
+      by-rule = follows-rule secondCircuit decodedByDigits c G (openOf secondCircuit c) (handed-length c G) (follows c G) (start c G) Correctable
+          (λ info frames erased small whole few. circuits-agree c G frames erased ∙ decoded-as-sent c G info frames erased small whole few);
       answers-agree = λ calls. let h = agreed c G calls in cc;
     }

@@ -4,6 +4,7 @@
 use mathlib.Core.Path.{_≡_}
 use mathlib.Core.List.{List}
 use Rattle.code.specs.declared.Card.{Card}
+use Rattle.majority.specs.AsSent.{Correctable}
 use Rattle.majority.specs.SecondCircuit.{decodedByDigits}
 use Rattle.receiving.specs.Calls.{Call, answers}
 use Rattle.receiving.specs.Claims.{ByRule}
@@ -14,6 +15,6 @@ use Rattle.digit_decoder.specs.declared.Session.{Session}
 
 pub record Claims (c : Card) (s : Session) : Type 0 where
   -- the second rule and the third term
-  pub by-rule : ByRule secondCircuit decodedByDigits c s
+  pub by-rule : ByRule secondCircuit decodedByDigits Correctable c s
   -- call by call the answers of the first circuit's session, "past the correctable number too"
   pub answers-agree : (calls : List Call) → answers secondCircuit s calls ≡ answers firstCircuit (openOf firstCircuit c) calls

@@ -15,7 +15,7 @@ use Rattle.code.specs.declared.Card.{Card}
 use Rattle.receiving.specs.Answers.{Given, waiting, refused, Reply}
 use Rattle.receiving.specs.Readings.{yields, refuses}
 use Rattle.receiving.specs.Receive.{Circuit, refusedOf}
-use Rattle.receiving.specs.Calls.{Call, replyOf, frameIn, erasedIn, taken, takenParts, takenFrames, takenErased, handedBy, handedIn, answers, answersReadBy, handedOut, takenAnswers, sessionAfter, sessionReadBy}
+use Rattle.receiving.specs.Calls.{Call, replyOf, frameIn, erasedIn, taken, takenParts, takenFrames, takenErased, handedBy, handedIn, answers, handedOut, takenAnswers, sessionAfter}
 use Rattle.receiving.proofs.Outcomes.{admission, outcome, reply-taken, reply-refused}
 
 -- what holds of a session after t of the frames; a frame that is taken keeps it, and gets its place among the answers
@@ -52,11 +52,11 @@ module _ {S : Type 0} (x : Circuit S) (c : Card) (frames erased : List ℕ) (giv
       ∙ ap₂ (λ (b : Bool) (r : Reply S). cond b (r .answer ∷ []) [] ++ takenAnswers x (r .session) calls) q e
 
   handed-next : (r : Reply S) → replyOf x s call ≡ r → handedOut x s (call ∷ calls) ≡ handedBy (r .answer) ++ handedOut x (r .session) calls
-  unfolding handedIn answersReadBy
+  unfolding handedIn answers
   handed-next r e = ap (λ (r : Reply S). handedBy (r .answer) ++ handedOut x (r .session) calls) e
 
   after-next : (r : Reply S) → replyOf x s call ≡ r → sessionAfter x s (call ∷ calls) ≡ sessionAfter x (r .session) calls
-  unfolding sessionReadBy
+  unfolding sessionAfter
   after-next r e = ap (λ (r : Reply S). sessionAfter x (r .session) calls) e
 
   -- a call that yields a frame is taken
@@ -102,7 +102,7 @@ module _ {S : Type 0} (x : Circuit S) (c : Card) (G : Guarantees c) (frames eras
 
   pub follow : (calls : List Call) (t : ℕ) (s : S) → t ≤ length frames → F .After t s → drop t frames ≡ takenFrames x s calls → drop t erased ≡ takenErased x s calls
       → Followed t s calls
-  unfolding takenAnswers takenParts answersReadBy sessionReadBy handedIn refusedOf
+  unfolding takenAnswers takenParts answers sessionAfter handedIn refusedOf
   follow [] t s l A ef ee =
       let n : t ≡ length frames = omega (arith, length-drop t frames, ap length ef) in
       record { answers-are = sym (drop-of-length-le given {i = t} (omega arith)); handed-are = refl; last = subst (λ (t : ℕ). F .After t s) n A }
@@ -130,7 +130,7 @@ module _ {S R : Type 0} (x : Circuit S) (y : Circuit R) (c : Card) (G : Guarante
     (F : Follows x c frames erased given) (H : Follows y c frames erased other) where
   pub agree : (calls : List Call) (t : ℕ) (s : S) (r : R) → F .After t s → H .After t r → drop t frames ≡ takenFrames x s calls → drop t erased ≡ takenErased x s calls
       → answers x s calls ≡ answers y r calls
-  unfolding answersReadBy refusedOf
+  unfolding answers refusedOf
   agree [] t s r A B ef ee = refl
   agree (call ∷ calls) t s r A B ef ee =
       ⊎-elim

@@ -4,7 +4,6 @@ pub mod Yields
 pub mod Read
 -- lists of calls
 pub mod Outcomes
-pub mod Former
 pub mod LevelRows
 pub mod Answers
 pub mod Follow

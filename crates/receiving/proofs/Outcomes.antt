@@ -12,8 +12,8 @@ use Rattle.code.specs.Guarantees.{Guarantees}
 use Rattle.code.specs.declared.Card.{Card}
 use Rattle.receiving.specs.Answers.{Reply, waiting}
 use Rattle.receiving.specs.Readings.{streamsOf, Yield, yields, refuses, faults, frameRead, erasedRead, readByteOf, readFrameOf}
-use Rattle.receiving.specs.Receive.{Circuit, inTurn, admitOf, refusedOf, settledOf, receiveOf, receiveByteOf, receiveReadingsOf, receiveReadingsBy}
-use Rattle.receiving.specs.Calls.{Call, byte, readings, replyOf, replyBy, numberIn, frameIn, erasedIn, readable, taken}
+use Rattle.receiving.specs.Receive.{Circuit, inTurn, admitOf, refusedOf, settledOf, receiveOf, receiveByteOf, receiveReadingsOf}
+use Rattle.receiving.specs.Calls.{Call, byte, readings, replyOf, numberIn, frameIn, erasedIn, readable, taken}
 use Rattle.receiving.specs.declared.Reading.{Reading}
 use Rattle.receiving.proofs.Yields.{byte-within, byte-beyond, read-whole, read-faulty}
 
@@ -55,15 +55,6 @@ module _ {S : Type 0} (received m : ℕ) (s : S) (hand : S → Reply S) where
   pub later-hand : m ≤ received → inTurn received m s hand ≡ hand s
   unfolding inTurn
   later-hand h = rw (le-ltb received m h)
-
-  -- a part of the session that handing out keeps
-  pub turn-keeps : {A : Type 0} (part : S → A) → part (hand s .session) ≡ part s → part (inTurn received m s hand .session) ≡ part s
-  unfolding inTurn
-  turn-keeps part handed = go (ltb received m)
-    where
-      go : (b : Bool) → part (cond b (record { answer = waiting; session = s }) (hand s) .session) ≡ part s
-      go true = refl
-      go false = handed
 
 -- ---- taken or refused
 
@@ -125,8 +116,8 @@ module _ {S : Type 0} (x : Circuit S) (s : S) (call : Call) where
   reply-is = by-kind call
     where
       by-kind : (call : Call) → replyOf x s call ≡ settledOf x s (admission (x .card s) (x .received s) call)
-      by-kind (byte number f) = unfold replyBy receiveByteOf receiveOf admission in refl
-      by-kind (readings number levels) = unfold replyBy receiveReadingsBy receiveOf admission in refl
+      by-kind (byte number f) = unfold replyOf receiveByteOf receiveOf admission in refl
+      by-kind (readings number levels) = unfold replyOf receiveReadingsOf receiveOf admission in refl
 
   -- a call that yields a frame is taken, and any other is refused
   pub reply-taken : (f e : ℕ) → admission (x .card s) (x .received s) call ≡ yields f e → replyOf x s call ≡ x .take s f e
@@ -154,5 +145,5 @@ module _ {S : Type 0} (x : Circuit S) (s : S) (number : ℕ) (y : Yield) where
     byte-is f q = e ∙ ap (receiveOf x s number) q
 
     pub readings-are : (levels : List Reading) → y ≡ readFrameOf levels (streamsOf (x .card s .k) (x .card s .p)) → r ≡ receiveReadingsOf x s number levels
-    unfolding receiveReadingsBy
+    unfolding receiveReadingsOf
     readings-are levels q = e ∙ ap (receiveOf x s number) q

@@ -7,7 +7,7 @@ use Rattle.bits.specs.Sums.{sumBelow}
 use Rattle.bits.specs.Digits.{fromDigits, shiftUp}
 use Rattle.bits.proofs.Sums.{sum-more}
 use Rattle.bits.proofs.Words.{shift-digit, placed-lt, placed-more}
-use Rattle.receiving.specs.Readings.{digit, erased, digitOf, digitIn, markIn, faultIn, readingAt, faults, faultsBy, frameRead, frameReadBy, erasedRead, erasedReadBy, yields, readFrameOf}
+use Rattle.receiving.specs.Readings.{digit, erased, digitOf, digitIn, markIn, faultIn, readingAt, faults, frameRead, erasedRead, yields, readFrameOf}
 use Rattle.receiving.specs.declared.Reading.{Reading}
 use Rattle.receiving.proofs.Yields.{told, read-whole}
 
@@ -20,14 +20,14 @@ pub record Read (readings : List Reading) (s frame marks : ℕ) : Type 0 where
   pub no-faults : faults readings s ≡ 0
 
 pub read-none : (readings : List Reading) → Read readings 0 0 0
-unfolding frameReadBy erasedReadBy faultsBy fromDigits sumBelow
+unfolding frameRead erasedRead faults fromDigits sumBelow
 read-none readings = record { frame-lt = omega arith; marks-lt = omega arith; frame-is = refl; marks-are = refl; no-faults = refl }
 
 module _ (readings : List Reading) (s frame marks : ℕ) (R : Read readings s frame marks) (hs : s < 32) where
   -- one reading more, which yields a digit d and a mark e
   more : (d e : ℕ) → d ≡ digitIn (digitOf (readingAt readings s)) → e ≡ markIn (digitOf (readingAt readings s)) → d < 2 → e < 2 → faultIn (digitOf (readingAt readings s)) ≡ 0
       → Read readings (s + 1) (frame + shiftUp d s) (marks + shiftUp e s)
-  unfolding frameReadBy erasedReadBy faultsBy
+  unfolding frameRead erasedRead faults
   more d e ed ee ld le none =
       record {
         frame-lt = placed-lt frame d s (R .frame-lt) ld hs;

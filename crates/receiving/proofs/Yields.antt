@@ -1,15 +1,14 @@
 -- What frames yield as they come: a reading, a byte, and the readings of a frame.
 use Prim.Native.Nat.{ℕ, _^_, _≤_, _<_}
-use mathlib.Core.Path.{_≡_, sym, ap, ap₂, _∙_}
+use mathlib.Core.Path.{_≡_, sym, ap, _∙_}
 use mathlib.Core.Bool.{Bool, true, false, cond}
 use mathlib.Core.List.{List}
 use native.Mathlib.Omega.{arith}
 use lib.Dec.{ltb}
 use lib.Ieee.{Float, nan, inf, fin}
 use borrow.Author.Tests.{lt-ltb, le-ltb, lt-leb, le-leb}
-use Rattle.bits.proofs.Sums.{sum-same, term-le-sum}
-use Rattle.bits.proofs.Digits.{from-digits-same}
-use Rattle.receiving.specs.Readings.{ReadingYield, digit, erased, refusal, yields, refuses, inBand, digitOfLevel, digitOf, digitIn, markIn, faultIn, readingAt, faults, faultsBy, frameRead, frameReadBy, erasedRead, erasedReadBy, readByteOf, readFrameOf, readFrameBy}
+use Rattle.bits.proofs.Sums.{term-le-sum}
+use Rattle.receiving.specs.Readings.{ReadingYield, digit, erased, refusal, yields, refuses, inBand, digitOfLevel, digitOf, digitIn, markIn, faultIn, readingAt, faults, frameRead, erasedRead, readByteOf, readFrameOf}
 use Rattle.receiving.specs.declared.Reading.{Reading}
 use Rattle.receiving.specs.declared.Reading.the-variants.{Level, Erased}
 
@@ -60,27 +59,17 @@ module _ (f n : ℕ) where
 
 -- ---- the readings of a frame
 
--- readings that yield the same make the same frame
-pub same-readings : (read other : Reading → ReadingYield) (levels others : List Reading) (n : ℕ)
-    → ((s : ℕ) → s < n → read (readingAt levels s) ≡ other (readingAt others s)) → readFrameBy read levels n ≡ readFrameBy other others n
-unfolding readFrameBy faultsBy frameReadBy erasedReadBy
-same-readings read other levels others n same =
-    rw (sum-same n _ _ (λ s l. ap faultIn (same s l)))
-    (ap₂ (λ f e. cond (ltb 0 (faultsBy other others n)) (refuses 12) (yields f e))
-    (from-digits-same n _ _ (λ s l. ap digitIn (same s l)))
-    (from-digits-same n _ _ (λ s l. ap markIn (same s l))))
-
 module _ (readings : List Reading) (n : ℕ) where
   pub read-whole : faults readings n ≡ 0 → readFrameOf readings n ≡ yields (frameRead readings n) (erasedRead readings n)
-  unfolding readFrameBy
+  unfolding readFrameOf
   read-whole e = rw (le-ltb 0 (faults readings n) (omega arith))
 
   pub read-faulty : 0 < faults readings n → readFrameOf readings n ≡ refuses 12
-  unfolding readFrameBy
+  unfolding readFrameOf
   read-faulty l = rw (lt-ltb 0 (faults readings n) l)
 
   pub read-refused : (s r : ℕ) → s < n → digitOf (readingAt readings s) ≡ refusal r → readFrameOf readings n ≡ refuses r
-  unfolding faultsBy faultIn
+  unfolding faults faultIn
   read-refused s r l e =
       let f = term-le-sum n (λ s. faultIn (digitOf (readingAt readings s))) s l in
       let one : faultIn (digitOf (readingAt readings s)) ≡ 1 = ap faultIn e in

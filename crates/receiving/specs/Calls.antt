@@ -8,9 +8,9 @@ use lib.ListN.{length, replicate}
 use lib.Dec.{ltb, eqb}
 use Rattle.code.specs.Code.{mostFrames}
 use Rattle.code.specs.declared.Card.{Card}
-use Rattle.receiving.specs.Readings.{ReadingYield, digitOf, faults, frameRead, erasedRead}
+use Rattle.receiving.specs.Readings.{faults, frameRead, erasedRead}
 use Rattle.receiving.specs.Answers.{Given, waiting, frame, refused, Reply}
-use Rattle.receiving.specs.Receive.{Circuit, receiveByteOf, receiveReadingsBy}
+use Rattle.receiving.specs.Receive.{Circuit, receiveByteOf, receiveReadingsOf}
 use Rattle.receiving.specs.declared.Reading.{Reading}
 
 -- a receiving call: the card number under which its frame was sent, and the frame as a byte or as readings
@@ -18,13 +18,10 @@ pub data Call : Type 0 where
   byte : ℕ → ℕ → Call
   readings : ℕ → List Reading → Call
 
--- what a call hands back, where `read` tells what a reading yields; `replyOf` where that is `digitOf`
-unfoldable pub replyBy : {S : Type 0} → (Reading → ReadingYield) → Circuit S → S → Call → Reply S
-replyBy read x s (byte number f) = receiveByteOf x s number f
-replyBy read x s (readings number levels) = receiveReadingsBy read x s number levels
-
-abbrev pub replyOf : {S : Type 0} → Circuit S → S → Call → Reply S
-replyOf x s call = replyBy digitOf x s call
+-- what a call hands back
+unfoldable pub replyOf : {S : Type 0} → Circuit S → S → Call → Reply S
+replyOf x s (byte number f) = receiveByteOf x s number f
+replyOf x s (readings number levels) = receiveReadingsOf x s number levels
 
 -- ---- which frames are taken
 
@@ -79,13 +76,10 @@ unfoldable pub handedIn : List Given → List ℕ
 handedIn [] = []
 handedIn (given ∷ later) = handedBy given ++ handedIn later
 
--- the answers, call by call, where `read` tells what a reading yields; `answers` where that is `digitOf`
-unfoldable pub answersReadBy : {S : Type 0} → (Reading → ReadingYield) → Circuit S → S → List Call → List Given
-answersReadBy read x s [] = []
-answersReadBy read x s (call ∷ calls) = replyBy read x s call .answer ∷ answersReadBy read x (replyBy read x s call .session) calls
-
-abbrev pub answers : {S : Type 0} → Circuit S → S → List Call → List Given
-answers x s calls = answersReadBy digitOf x s calls
+-- the answers, call by call
+unfoldable pub answers : {S : Type 0} → Circuit S → S → List Call → List Given
+answers x s [] = []
+answers x s (call ∷ calls) = replyOf x s call .answer ∷ answers x (replyOf x s call .session) calls
 
 -- the frames handed out, in the order of the calls
 abbrev pub handedOut : {S : Type 0} → Circuit S → S → List Call → List ℕ
@@ -97,13 +91,10 @@ takenAnswers x s [] = []
 takenAnswers x s (call ∷ calls) =
     cond (taken (x .card s) (x .received s) call) (replyOf x s call .answer ∷ []) [] ++ takenAnswers x (replyOf x s call .session) calls
 
--- the session after the calls, where `read` tells what a reading yields; `sessionAfter` where that is `digitOf`
-unfoldable pub sessionReadBy : {S : Type 0} → (Reading → ReadingYield) → Circuit S → S → List Call → S
-sessionReadBy read x s [] = s
-sessionReadBy read x s (call ∷ calls) = sessionReadBy read x (replyBy read x s call .session) calls
-
-abbrev pub sessionAfter : {S : Type 0} → Circuit S → S → List Call → S
-sessionAfter x s calls = sessionReadBy digitOf x s calls
+-- the session after the calls
+unfoldable pub sessionAfter : {S : Type 0} → Circuit S → S → List Call → S
+sessionAfter x s [] = s
+sessionAfter x s (call ∷ calls) = sessionAfter x (replyOf x s call .session) calls
 
 -- ---- what a rule answers to received frames
 

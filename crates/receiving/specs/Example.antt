@@ -9,8 +9,7 @@ use lib.IntN.{pos, negsuc}
 use lib.Ieee.{nan, fin}
 use Rattle.receiving.specs.Answers.{waiting, frame}
 use Rattle.receiving.specs.Receive.{Circuit}
-use Rattle.receiving.specs.Calls.{Call, byte, readings, takenParts, handedIn, handedOut, takenAnswers, sessionAfter, sessionReadBy}
-use Rattle.receiving.specs.Former.{formerDigitOf, levelsInBand, formerAnswers, AsBefore}
+use Rattle.receiving.specs.Calls.{Call, byte, readings, handedOut, takenAnswers}
 use Rattle.receiving.specs.declared.Reading.{Reading}
 use Rattle.receiving.specs.declared.Reading.the-variants.{Level, Erased}
 
@@ -61,16 +60,11 @@ abbrev pub callsP-at : Reading → List Call
 callsP-at level =
     readings 8 (replicate 8 faint) ∷ readings 7 (pair faint (Level nan)) ∷ readings 7 (level ∷ level ∷ replicate 6 faint) ∷ byte 7 1 ∷ byte 7 0 ∷ []
 
--- R-7's last sentence, at the edge of its condition
+-- R-7, at the edge of its band
 pub record ReceivesFaintP {S : Type 0} (x : Circuit S) (s : S) : Type 0 where
-  -- minus 0.25 is a digit, and all is as before
+  -- minus 0.25 is a digit; the next level is erased, and other frames are handed out
   pub quarter-by-rule : handedOut x s (callsP-at minusQuarter) ≡ 0 ∷ 0 ∷ []
-  pub quarter-as-before : AsBefore x s (callsP-at minusQuarter)
-  -- the next level is erased: two levels of frame 0 lie within the band, and other frames are handed out than before
-  pub faint-counted : takenParts levelsInBand x s (callsP-at faint) ≡ 2 ∷ 0 ∷ 0 ∷ []
   pub faint-by-rule : handedOut x s (callsP-at faint) ≡ 1 ∷ 1 ∷ []
-  pub faint-before : handedIn (formerAnswers x s (callsP-at faint)) ≡ 0 ∷ 0 ∷ []
-  pub held-before : sessionReadBy formerDigitOf x s (callsP-at faint) ≡ sessionAfter x s (callsP-at minusQuarter)
 
 -- what T sends for 3, information on both of its streams, with two parity digits wrong
 abbrev pub callsT : List Call

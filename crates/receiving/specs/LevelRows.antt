@@ -1,12 +1,10 @@
--- What levels yield at the edges of the band, by their patterns as f32, and what holds of every reading outside it: document 02, R-7.
+-- What levels yield at the edges of the band, by their patterns as f32: document 02, R-7. What they yielded before stands in `terms`.
 -- Assumes nothing.
 use Prim.Native.Nat.{ℕ}
 use mathlib.Core.Path.{_≡_}
 use mathlib.Core.List.{List, [], _∷_, map}
 use lib.Ieee.{binary32, ofBits}
-use Rattle.receiving.specs.Readings.{digit, erased, refusal, digitOf, yields, readFrameOf, readFrameBy}
-use Rattle.receiving.specs.Calls.{byte, readings}
-use Rattle.receiving.specs.Former.{formerDigitOf, bandIn, levelsInBand}
+use Rattle.receiving.specs.Readings.{digit, erased, refusal, digitOf, yields, readFrameOf}
 use Rattle.receiving.specs.declared.Reading.{Reading}
 use Rattle.receiving.specs.declared.Reading.the-variants.{Level}
 
@@ -29,19 +27,9 @@ farOut = levelsOf (0x7f7f_ffff ∷ 0xff7f_ffff ∷ 0x7f80_0000 ∷ 0xff80_0000 �
 pub record LevelRows : Type 0 where
   -- "0.25 and minus 0.25 themselves are digits"
   pub quarters-yield : map digitOf quarters ≡ digit 1 ∷ erased ∷ digit 1 ∷ digit 0 ∷ erased ∷ digit 0 ∷ []
-  pub quarters-counted : map bandIn quarters ≡ 0 ∷ 1 ∷ 0 ∷ 0 ∷ 1 ∷ 0 ∷ []
-  -- as the readings of one frame: their digits and marks, now and before
+  -- as the readings of one frame: their digits and marks
   pub quarters-in-a-frame : readFrameOf quarters 6 ≡ yields 0b101 0b10010
-  pub quarters-in-a-former-frame : readFrameBy formerDigitOf quarters 6 ≡ yields 0b111 0
-  -- of a frame as readings the first n are counted, and of one that is a byte none
-  pub first-counted : map (λ n. levelsInBand n (readings 7 quarters)) (1 ∷ 2 ∷ 4 ∷ 5 ∷ 6 ∷ []) ≡ 0 ∷ 1 ∷ 1 ∷ 2 ∷ 2 ∷ []
-  pub none-in-a-byte : levelsInBand 8 (byte 7 0) ≡ 0
-  -- "a level whose magnitude is below 0.25 is erased", where it was a digit, a zero too
+  -- "a level whose magnitude is below 0.25 is erased", a zero too
   pub near-zero-yield : map digitOf nearZero ≡ erased ∷ erased ∷ erased ∷ erased ∷ erased ∷ erased ∷ []
-  pub near-zero-yielded : map formerDigitOf nearZero ≡ digit 0 ∷ digit 0 ∷ digit 1 ∷ digit 1 ∷ digit 0 ∷ digit 0 ∷ []
-  pub near-zero-counted : map bandIn nearZero ≡ 1 ∷ 1 ∷ 1 ∷ 1 ∷ 1 ∷ 1 ∷ []
   -- "or refusal 12"
   pub far-out-yield : map digitOf farOut ≡ digit 1 ∷ digit 0 ∷ refusal 12 ∷ refusal 12 ∷ refusal 12 ∷ []
-  pub far-out-counted : map bandIn farOut ≡ 0 ∷ 0 ∷ 0 ∷ 0 ∷ 0 ∷ []
-  -- outside the band a reading yields what it did
-  pub outside-as-before : (r : Reading) → bandIn r ≡ 0 → digitOf r ≡ formerDigitOf r

@@ -2,7 +2,6 @@ pub mod Readings
 pub mod Answers
 pub mod Receive
 pub mod Calls
-pub mod Former
 pub mod LevelRows
 pub mod Claims
 pub mod Opening

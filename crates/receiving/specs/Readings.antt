@@ -67,7 +67,7 @@ faultIn (refusal n) = 1
 abbrev pub readingAt : List Reading → ℕ → Reading
 readingAt readings s = getD readings s (Level nan)
 
--- ---- the readings of a frame, where `read` tells what a reading yields
+-- ---- the readings of a frame
 
 -- what a frame yields: its digits, an erased one as 0, and a 1 for each that is erased; or a refusal by its published number
 pub data Yield : Type 0 where
@@ -75,34 +75,20 @@ pub data Yield : Type 0 where
   refuses : ℕ → Yield
 
 -- how many of the first n are refused
-unfoldable pub faultsBy : (Reading → ReadingYield) → List Reading → ℕ → ℕ
-faultsBy read readings n = sumBelow n (λ s. faultIn (read (readingAt readings s)))
+unfoldable pub faults : List Reading → ℕ → ℕ
+faults readings n = sumBelow n (λ s. faultIn (digitOf (readingAt readings s)))
 
 -- the frame that the first n make, digit s from reading s
-unfoldable pub frameReadBy : (Reading → ReadingYield) → List Reading → ℕ → ℕ
-frameReadBy read readings n = fromDigits n (λ s. digitIn (read (readingAt readings s)))
+unfoldable pub frameRead : List Reading → ℕ → ℕ
+frameRead readings n = fromDigits n (λ s. digitIn (digitOf (readingAt readings s)))
 
 -- which digits of that frame are erased
-unfoldable pub erasedReadBy : (Reading → ReadingYield) → List Reading → ℕ → ℕ
-erasedReadBy read readings n = fromDigits n (λ s. markIn (read (readingAt readings s)))
+unfoldable pub erasedRead : List Reading → ℕ → ℕ
+erasedRead readings n = fromDigits n (λ s. markIn (digitOf (readingAt readings s)))
 
 -- what they yield; those after the n-th are not looked at
-unfoldable pub readFrameBy : (Reading → ReadingYield) → List Reading → ℕ → Yield
-readFrameBy read readings n =
-    cond (ltb 0 (faultsBy read readings n)) (refuses 12) (yields (frameReadBy read readings n) (erasedReadBy read readings n))
-
--- where `read` is `digitOf`
-abbrev pub faults : List Reading → ℕ → ℕ
-faults readings n = faultsBy digitOf readings n
-
-abbrev pub frameRead : List Reading → ℕ → ℕ
-frameRead readings n = frameReadBy digitOf readings n
-
-abbrev pub erasedRead : List Reading → ℕ → ℕ
-erasedRead readings n = erasedReadBy digitOf readings n
-
-abbrev pub readFrameOf : List Reading → ℕ → Yield
-readFrameOf readings n = readFrameBy digitOf readings n
+unfoldable pub readFrameOf : List Reading → ℕ → Yield
+readFrameOf readings n = cond (ltb 0 (faults readings n)) (refuses 12) (yields (frameRead readings n) (erasedRead readings n))
 
 -- ---- a byte, and what the program hands back
 

@@ -7,7 +7,7 @@ use mathlib.Core.List.{List}
 use lib.Dec.{ltb, eqb}
 use Rattle.code.specs.Code.{mostFrames}
 use Rattle.code.specs.declared.Card.{Card}
-use Rattle.receiving.specs.Readings.{streamsOf, ReadingYield, Yield, yields, refuses, digitOf, readByteOf, readFrameBy}
+use Rattle.receiving.specs.Readings.{streamsOf, Yield, yields, refuses, readByteOf, readFrameOf}
 use Rattle.receiving.specs.Answers.{Reply, waiting, refused}
 use Rattle.receiving.specs.declared.Reading.{Reading}
 
@@ -62,9 +62,6 @@ receiveOf x s number y = settledOf x s (admitOf (x .card s .number) (x .received
 unfoldable pub receiveByteOf : {S : Type 0} → Circuit S → S → ℕ → ℕ → Reply S
 receiveByteOf x s number f = receiveOf x s number (readByteOf f (streamsOf (x .card s .k) (x .card s .p)))
 
--- a frame as readings, where `read` tells what a reading yields; `receiveReadingsOf` where that is `digitOf`
-unfoldable pub receiveReadingsBy : {S : Type 0} → (Reading → ReadingYield) → Circuit S → S → ℕ → List Reading → Reply S
-receiveReadingsBy read x s number readings = receiveOf x s number (readFrameBy read readings (streamsOf (x .card s .k) (x .card s .p)))
-
-abbrev pub receiveReadingsOf : {S : Type 0} → Circuit S → S → ℕ → List Reading → Reply S
-receiveReadingsOf x s number readings = receiveReadingsBy digitOf x s number readings
+-- a frame as readings
+unfoldable pub receiveReadingsOf : {S : Type 0} → Circuit S → S → ℕ → List Reading → Reply S
+receiveReadingsOf x s number readings = receiveOf x s number (readFrameOf readings (streamsOf (x .card s .k) (x .card s .p)))

@@ -59,12 +59,12 @@ reading-is (Level (fin sign m e)) = go sign (ltb (4 * (m * up e)) (down e))
 -- ---- a frame
 module _ (n : ℕ) where
   pub frame-is : (a : Call) → digitsOf 1 readNow n a ≡ call.frameIn n a
-  unfolding digitsOf call.frameIn yield.frameReadBy
+  unfolding digitsOf call.frameIn yield.frameRead
   frame-is (byte number f) = refl
   frame-is (readings number levels) = from-digits-same n _ _ (λ s l. reading-is (getD levels s (Level nan)) .0)
 
   pub erased-is : (a : Call) → digitsOf 2 readNow n a ≡ call.erasedIn n a
-  unfolding digitsOf call.erasedIn yield.erasedReadBy
+  unfolding digitsOf call.erasedIn yield.erasedRead
   erased-is (byte number f) = refl
   erased-is (readings number levels) = from-digits-same n _ _ (λ s l. reading-is (getD levels s (Level nan)) .1)
 
@@ -103,7 +103,7 @@ in-order false b d e y = refl
 
 pub admission-is : (c : Card) → Guarantees c → (t : ℕ) (a : Call)
     → admission c t a ≡ settled (yields (call.frameIn (c .k + c .p) a) (call.erasedIn (c .k + c .p) a)) refuses (refusal readNow c t a)
-unfolding admission admitOf refusal numberIn digitsOf yield.readByteOf yield.readFrameBy yield.faultsBy call.frameIn call.erasedIn
+unfolding admission admitOf refusal numberIn digitsOf yield.readByteOf yield.readFrameOf yield.faults call.frameIn call.erasedIn
 admission-is c G t (byte number f) =
     let n : yield.streamsOf (c .k) (c .p) ≡ c .k + c .p = omega (arith, G .k-most, G .n-most) in
     rw (n, full-is) (sym (in-order (eqb number (c .number)) (ltb t mostFrames) (leb (2 ^ (c .k + c .p)) f) false (yields f 0)))

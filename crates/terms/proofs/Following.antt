@@ -16,7 +16,7 @@ use Rattle.code.specs.declared.Card.{Card}
 use Rattle.receiving.specs.Answers.{Given, waiting, frame, Reply}
 use Rattle.receiving.specs.Answers as answer
 use Rattle.receiving.specs.Calls as call
-use Rattle.receiving.specs.Calls.{Call, replyOf, takenParts, takenFrames, takenAnswers, answers, answersReadBy, sessionAfter, sessionReadBy}
+use Rattle.receiving.specs.Calls.{Call, replyOf, takenParts, takenFrames, takenAnswers, answers, sessionAfter}
 use Rattle.receiving.specs.Readings.{yields, refuses}
 use Rattle.receiving.specs.Receive.{Circuit, refusedOf}
 use Rattle.receiving.proofs.Outcomes.{admission, outcome, reply-taken, reply-refused}
@@ -27,13 +27,13 @@ use Rattle.terms.proofs.Told.{settled, settled-some}
 -- ---- calls after others
 module _ {S : Type 0} (x : Circuit S) where
   pub session-append : (before calls : List Call) (s : S) → sessionAfter x s (before ++ calls) ≡ sessionAfter x (sessionAfter x s before) calls
-  unfolding sessionReadBy
+  unfolding sessionAfter
   session-append [] calls s = refl
   session-append (a ∷ before) calls s = session-append before calls (replyOf x s a .session)
 
   parts-append : (part : ℕ → Call → ℕ) (before calls : List Call) (s : S)
       → takenParts part x s (before ++ calls) ≡ takenParts part x s before ++ takenParts part x (sessionAfter x s before) calls
-  unfolding takenParts sessionReadBy
+  unfolding takenParts sessionAfter
   parts-append part [] calls s = refl
   parts-append part (a ∷ before) calls s =
       let first = cond (call.taken (x .card s) (x .received s) a) (part (x .card s .k + x .card s .p) a ∷ []) [] in
@@ -75,7 +75,7 @@ module _ {S : Type 0} (x : Circuit S) (c : Card) (G : Guarantees c) (s : S) (car
     count-is : length (takenFrames x s before) ≡ t
 
   start : After 0 s
-  unfolding sessionReadBy takenParts
+  unfolding sessionAfter takenParts
   start = record { before = []; session-is = refl; count-is = refl }
 
   module _ (t : ℕ) (s′ : S) (A : After t s′) where
@@ -103,7 +103,7 @@ module _ {S : Type 0} (x : Circuit S) (c : Card) (G : Guarantees c) (s : S) (car
     answers-next a calls b e = ap (λ (b : Bool). cond b (replyOf x s′ a .answer ∷ []) [] ++ takenAnswers x (replyOf x s′ a .session) calls) (taken-as a ∙ e)
 
     after-next : (a : Call) (b : Bool) → call.taken c t a ≡ b → After (t + cond b 1 0) (replyOf x s′ a .session)
-    unfolding sessionReadBy takenParts
+    unfolding sessionAfter takenParts
     after-next a b e =
         record {
           before = A .before ++ (a ∷ []);
@@ -146,7 +146,7 @@ module _ {S : Type 0} (x : Circuit S) (c : Card) (G : Guarantees c) (s : S) (car
   -- what is answered: where the calls that are taken get the answers `given` from t on, and these are those of their turns
   module _ (out : ℕ → ℕ) (given : List Given) (in-turn : (u : ℕ) → u < length given → getD given u waiting ≡ cond (ltb u (c .m)) waiting (frame (out (u - c .m)))) where
     answered-from : (calls : List Call) (t : ℕ) (s′ : S) → After t s′ → takenAnswers x s′ calls ≡ drop t given → answers x s′ calls ≡ answersTo readNow c out t calls
-    unfolding answersTo answersReadBy refusedOf
+    unfolding answersTo answers refusedOf
     answered-from [] t s′ A e = refl
     answered-from (a ∷ calls) t s′ A e =
         ⊎-elim
@@ -181,7 +181,7 @@ module _ {S : Type 0} (x : Circuit S) (c : Card) (G : Guarantees c) (s : S) (car
 
   -- a refused call
   pub unchanged : (calls : List Call) (a : Call) → (refusal readNow c (length (taken readNow c 0 calls)) a ≡ 0 → ⊥) → sessionAfter x s (calls ++ (a ∷ [])) ≡ sessionAfter x s calls
-  unfolding sessionReadBy refusedOf
+  unfolding sessionAfter refusedOf
   unchanged calls a ne =
       let s′ = sessionAfter x s calls in
       let t = length (taken readNow c 0 calls) in

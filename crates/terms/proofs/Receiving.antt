@@ -57,7 +57,7 @@ module _ (hands : Card → List ℕ → List ℕ → List ℕ) (c : Card) (as-de
       (λ (h : u < c .m). first-waiting hands c frames erased many u lu h ∙ rw (lt-ltb u (c .m) h))
       (le-or-lt (c .m) u)
 
-module _ {S : Type 0} (x : Circuit S) (hands : Card → List ℕ → List ℕ → List ℕ) (c : Card) (G : Guarantees c) (s : S) (B : ByRule x hands c s)
+module _ {S : Type 0} (x : Circuit S) (hands : Card → List ℕ → List ℕ → List ℕ) (c : Card) (G : Guarantees c) (s : S) (B : ByRule x hands Correctable c s)
     (as-decoded : (frames erased : List ℕ) → hands c frames erased ≡ rule.decoded c frames erased) where
   pub frames-are : (calls : List Call) → takenFrames x s calls ≡ framesTaken readNow c calls
   frames-are calls =

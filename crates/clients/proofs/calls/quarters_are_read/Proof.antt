@@ -2,7 +2,7 @@ use borrow.Author.Needs.{needs}
 use lib.Ieee.{ofBits, neg, div}
 use Rattle.bits.specs.Sums.{sumBelow}
 use Rattle.bits.specs.Digits.{fromDigits}
-use Rattle.receiving.specs.Readings.{inBand, digitOfLevel, digitOf, digitIn, markIn, faultIn, faultsBy, frameReadBy, erasedReadBy, readFrameBy}
+use Rattle.receiving.specs.Readings.{inBand, digitOfLevel, digitOf, digitIn, markIn, faultIn, faults, frameRead, erasedRead, readFrameOf}
 use Rattle.clients.proofs.calls.quarters_are_read.Statement.{statement}
 use Rattle.clients.proofs.calls.quarters_are_read.Tie as tie
 
@@ -10,7 +10,7 @@ read-frame-requires : tie.Need-read-frame-requires
 read-frame-requires c κs = search needs
 
 returns : tie.Need-returns
-unfolding sumBelow fromDigits ofBits neg div inBand digitOfLevel digitOf digitIn markIn faultIn faultsBy frameReadBy erasedReadBy readFrameBy
+unfolding sumBelow fromDigits ofBits neg div inBand digitOfLevel digitOf digitIn markIn faultIn faults frameRead erasedRead readFrameOf
 returns c = c .read-frame .ensures
 
 pub quarters-are-read-spec : {M : Type 1} → statement M
