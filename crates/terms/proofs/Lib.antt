@@ -11,6 +11,7 @@ pub mod Rule
 pub mod Calls
 pub mod Following
 pub mod Band
+pub mod BandRows
 pub mod Receiving
 pub mod Opening
 pub mod BurstReceiving

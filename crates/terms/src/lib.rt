@@ -2,5 +2,6 @@
 // stand in the gate, and are proved from the promises of the calls alone.
 pub mod bursts;
 pub mod cards;
+pub mod edges;
 pub mod receivers;
 pub mod senders;
