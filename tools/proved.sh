@@ -23,7 +23,7 @@ build() { # NAME
     command -v rt >/dev/null || { echo "$script: there is no rt on the path: it is the toolchain that proves and builds the program" >&2; exit 1; }
     [ -x "$program" ] || echo "$script: proving and building the program; the first time this takes some minutes" >&2
     # The word is there only where rt has ended with status 0. The status alone would not do: bash has 0 for a `$(..)` that it could not run.
-    said=$("$root/tests/rt_apart" check "$1" </dev/null 2>&1 && echo proved) && [ "${said##*$'\n'}" = proved ] && return
+    said=$("$root/tools/rt_apart" check "$1" </dev/null 2>&1 && echo proved) && [ "${said##*$'\n'}" = proved ] && return
     printf '%s\n' "$said" >&2
     echo "$script: rt has not proved the program, so it is not run" >&2
     exit 1
