@@ -2,18 +2,21 @@
 source "$(dirname "${BASH_SOURCE[0]}")/../tools/building.sh"
 built=target/tests
 mkdir -p "$built"
-warnings="-std=c11 -Wall -Wextra -Wpedantic"
+
+# What all C here is compiled with; what uses the library's header has -Iinclude as well.
+flags="-std=c11 -Wall -Wextra -Wpedantic -Itests"
+reference=$(echo tests/reference/*.c)
 
 # Compiles the measuring program over the libraries that are named. Functions and loops are aligned, lest a time depend on where the linker puts
 # them: it made as much as a third of the best C's.
-bench_sources=$(echo tests/{bench,bench_cards,measure,goals,subjects,plain,plain_card,plain_specialised,plain_best,cards,reference}.c)
-build_bench() {
-    $compiler $warnings -O2 -falign-functions=64 -falign-loops=64 -Iinclude $bench_sources "$sessions" "$library" $(viterbi) -lm -o "$built/bench"
+speed_sources="$(echo tests/speed/{speed,readers,measure,goals,subjects,plain,plain_card,plain_specialised,plain_best}.c) tests/inputs/cards.c $reference"
+build_speed() {
+    $compiler $flags -O2 -falign-functions=64 -falign-loops=64 -Iinclude $speed_sources "$sessions" "$library" $(viterbi) -lm -o "$built/speed"
 }
 
 # Reads it as the compiler does, and links nothing.
-read_bench() {
-    $compiler $warnings -Iinclude -fsyntax-only $bench_sources
+read_speed() {
+    $compiler $flags -Iinclude -fsyntax-only $speed_sources
 }
 
 # What the measuring program's Viterbi decoder is compiled with, if libfec is installed.
@@ -22,13 +25,13 @@ viterbi() {
     probe=$(mktemp -d)
     printf '#include <fec.h>\nint main(void) { return create_viterbi27(8) == 0; }\n' >"$probe/probe.c"
     if $compiler "$probe/probe.c" -lfec -o "$probe/probe" 2>/dev/null && "$probe/probe" 2>/dev/null; then
-        echo "-DWITH_LIBFEC tests/viterbi.c -lfec"
+        echo "-DWITH_LIBFEC tests/speed/viterbi.c -lfec"
     fi
     rm -rf "$probe"
 }
 
 compile_trace_driver() {
-    $compiler $warnings -O2 -g $(sanitizers) tests/trace_driver.c tests/trace.c tests/reference.c tests/cards.c -lm -o "$built/trace_driver"
+    $compiler $flags -O2 -g $(sanitizers) tests/drivers/trace/{trace_driver,trace}.c tests/inputs/cards.c $reference -lm -o "$built/trace_driver"
 }
 
 # The sanitizers' options, if the compiler has them and what it builds with them runs.
