@@ -31,7 +31,7 @@ viterbi() {
 }
 
 compile_trace_driver() {
-    $compiler $flags -O2 -g $(sanitizers) tests/drivers/trace/{trace_driver,trace}.c tests/inputs/cards.c $reference -lm -o "$built/trace_driver"
+    $compiler $flags -O2 -g $(sanitizers) tests/drivers/trace/{trace_driver,making,records,running,comparing,trace}.c tests/inputs/cards.c $reference -lm -o "$built/trace_driver"
 }
 
 # The sanitizers' options, if the compiler has them and what it builds with them runs.
