@@ -1,7 +1,5 @@
 #include "records.h"
 
-#include "inputs/random.h"
-
 /* ---- Readings ---- */
 
 /* Levels as their bits: without the sign they are in the order of the magnitudes, and below `quarter` lies the band in
