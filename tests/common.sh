@@ -7,6 +7,19 @@ mkdir -p "$built"
 flags="-std=c11 -Wall -Wextra -Wpedantic -Itests"
 reference=$(echo tests/reference/*.c)
 
+# As build_library of tools/building.sh, for a program.
+build_program() {
+    stale "target/bin/$1" || return 0
+    tools/rt_apart check "$1"
+}
+
+# The same for the sessions that are measured beside the library.
+sessions=target/staticlib/libsessions.a
+build_sessions() {
+    stale "$sessions" || return 0
+    tools/rt_apart staticlib sessions
+}
+
 # Compiles the measuring program over the libraries that are named. Functions and loops are aligned, lest a time depend on where the linker puts
 # them: it made as much as a third of the best C's.
 speed_sources="$(echo tests/speed/{speed,readers,measure,goals,subjects,plain,plain_card,plain_specialised,plain_best}.c) tests/inputs/cards.c $reference"
@@ -31,7 +44,9 @@ viterbi() {
 }
 
 compile_trace_driver() {
-    $compiler $flags -O2 -g $(sanitizers) tests/drivers/trace/{trace_driver,making,records,running,comparing,trace}.c tests/inputs/cards.c $reference -lm -o "$built/trace_driver"
+    local sources
+    sources=$(echo tests/drivers/trace/{trace_driver,making,records,running,comparing,trace}.c)
+    $compiler $flags -O2 -g $(sanitizers) $sources tests/inputs/cards.c $reference -lm -o "$built/trace_driver"
 }
 
 # The sanitizers' options, if the compiler has them and what it builds with them runs.

@@ -8,7 +8,6 @@ if ! command -v "$compiler" >/dev/null; then
 fi
 
 library=target/staticlib/libburst.a
-sessions=target/staticlib/libsessions.a
 
 # Whether a file is not there, or something under crates/ has changed since it was built.
 stale() {
@@ -19,16 +18,4 @@ stale() {
 build_library() {
     stale "$library" || return 0
     tools/rt_apart staticlib burst
-}
-
-# The same for the sessions that are measured beside it.
-build_sessions() {
-    stale "$sessions" || return 0
-    tools/rt_apart staticlib sessions
-}
-
-# The same for a program.
-build_program() {
-    stale "target/bin/$1" || return 0
-    tools/rt_apart check "$1"
 }
