@@ -1,9 +1,0 @@
-/* Whether the card readers that tests/bench measures agree. */
-#ifndef BENCH_CARDS_H
-#define BENCH_CARDS_H
-
-/* Sets the library's, the plain one and the reference against each other, on the subjects cut short at every length and on
- * random cards, good, spoiled, damaged and stated. Prints how many there were of which answer. */
-void compare_card_readers(void);
-
-#endif

@@ -1,0 +1,47 @@
+"""Running a program that reads standard input and writes standard output; and where the reference, samples/reference.py, is imported from."""
+import os
+import pathlib
+import subprocess
+import sys
+import threading
+
+SAMPLES = pathlib.Path(__file__).resolve().parents[2] / "samples"
+sys.path.insert(0, str(SAMPLES))
+
+
+def at_once(given):
+    """A file of the input."""
+    descriptor = os.memfd_create("input")
+    os.write(descriptor, given)
+    os.lseek(descriptor, 0, os.SEEK_SET)
+    return descriptor
+
+
+def by_the_byte(given):
+    """A pipe that gives the input a byte at a time: in packet mode a read gets what one write gave, and no more."""
+    reading, writing = os.pipe2(os.O_DIRECT | os.O_CLOEXEC)
+
+    def feed():
+        try:
+            for byte in given:
+                os.write(writing, bytes([byte]))
+        except BrokenPipeError:
+            pass  # not all of it is read
+        os.close(writing)
+
+    threading.Thread(target=feed, daemon=True).start()
+    return reading
+
+
+def run(program, stdin, stdout=subprocess.PIPE):
+    """What the program wrote, and what it said on standard error. Its input is closed afterwards."""
+    try:
+        ended = subprocess.run([program], stdin=stdin, stdout=stdout, stderr=subprocess.PIPE, timeout=60)
+    except subprocess.TimeoutExpired:
+        return b"", b"(it did not end)"
+    finally:
+        os.close(stdin)
+    wrote = ended.stdout or b""
+    if ended.returncode != 0:
+        return wrote, f"(it ended with status {ended.returncode})".encode()
+    return wrote, ended.stderr
