@@ -18,7 +18,7 @@ use Rattle.receiving.specs.Answers as answer
 use Rattle.receiving.specs.Calls.{Call, byte, readings}
 use Rattle.receiving.specs.declared.Reading.{Reading}
 use Rattle.receiving.specs.declared.Reading.the-variants.{Level, Erased}
-use Rattle.terms.specs.Terms.{when, first, Decided, handed, digitsOf, refusal, taken, framesTaken, erasedTaken}
+use Rattle.terms.specs.Terms.{when, first, Decided, handed, digitsOf, refusal, takenCalls, framesTaken, erasedTaken}
 use Rattle.terms.proofs.Calls.{is, is-le}
 use Rattle.terms.specs.Terms.{answersTo, ByTheRule, readNow, readBefore, Outside}
 
@@ -89,8 +89,8 @@ module _ (c : Card) where
   unfolding refusal
   refused-as t a = rw (same-beyond (c .k + c .p) a, same-refused (c .k + c .p) a)
 
-  taken-as : (t : ℕ) (calls : List Call) → taken readBefore c t calls ≡ taken readNow c t calls
-  unfolding taken
+  taken-as : (t : ℕ) (calls : List Call) → takenCalls readBefore c t calls ≡ takenCalls readNow c t calls
+  unfolding takenCalls
   taken-as t [] = refl
   taken-as t (a ∷ calls) = rw (refused-as t a, taken-as (suc t) calls, taken-as t calls)
 
@@ -100,11 +100,11 @@ module _ (c : Card) where
   answers-as out t (a ∷ calls) = rw (refused-as t a, answers-as out (suc t) calls, answers-as out t calls)
 
   -- ---- a list of calls
-  pub as-before : (calls : List Call) (given : List Given) → ((t : ℕ) → Outside (c .k + c .p) (getD (taken readNow c 0 calls) t (byte 0 0)))
+  pub as-before : (calls : List Call) (given : List Given) → ((t : ℕ) → Outside (c .k + c .p) (getD (takenCalls readNow c 0 calls) t (byte 0 0)))
       → ByTheRule readNow c calls given → ByTheRule readBefore c calls given
   as-before calls given out r =
-      let l = taken readNow c 0 calls in
-      let same : (value : ℕ) → map (digitsOf value readBefore (c .k + c .p)) (taken readBefore c 0 calls) ≡ map (digitsOf value readNow (c .k + c .p)) l =
+      let l = takenCalls readNow c 0 calls in
+      let same : (value : ℕ) → map (digitsOf value readBefore (c .k + c .p)) (takenCalls readBefore c 0 calls) ≡ map (digitsOf value readNow (c .k + c .p)) l =
       λ value. ap (map (digitsOf value readBefore (c .k + c .p))) (taken-as 0 calls) ∙ same-in (c .k + c .p) value l out in
       record {
         errors = r .errors;

@@ -20,7 +20,7 @@ use Rattle.receiving.specs.Calls.{Call, replyOf, takenParts, takenFrames, taken
 use Rattle.receiving.specs.Readings.{yields, refuses}
 use Rattle.receiving.specs.Receive.{Circuit, refusedOf}
 use Rattle.receiving.proofs.Outcomes.{admission, outcome, reply-taken, reply-refused}
-use Rattle.terms.specs.Terms.{refusal, taken, answersTo, readNow}
+use Rattle.terms.specs.Terms.{refusal, takenCalls, answersTo, readNow}
 use Rattle.terms.proofs.Calls.{admission-is}
 use Rattle.terms.proofs.Told.{settled, settled-some}
 
@@ -121,8 +121,8 @@ module _ {S : Type 0} (x : Circuit S) (c : Card) (G : Guarantees c) (s : S) (car
     refused-next a w = reply-refused x s′ a _ (admitted-as a ∙ w .admitted)
 
   -- what is taken
-  taken-from : (part : ℕ → Call → ℕ) (calls : List Call) (t : ℕ) (s′ : S) → After t s′ → takenParts part x s′ calls ≡ map (part (c .k + c .p)) (taken readNow c t calls)
-  unfolding taken takenParts refusedOf
+  taken-from : (part : ℕ → Call → ℕ) (calls : List Call) (t : ℕ) (s′ : S) → After t s′ → takenParts part x s′ calls ≡ map (part (c .k + c .p)) (takenCalls readNow c t calls)
+  unfolding takenCalls takenParts refusedOf
   taken-from part [] t s′ A = refl
   taken-from part (a ∷ calls) t s′ A =
       ⊎-elim
@@ -130,17 +130,17 @@ module _ {S : Type 0} (x : Circuit S) (c : Card) (G : Guarantees c) (s : S) (car
       let n : t + 1 ≡ suc t = omega arith in
       parts-next t s′ A part a calls true (w .is-taken)
       ∙ ap (λ (l : List ℕ). part (c .k + c .p) a ∷ l) (taken-from part calls (suc t) _ (subst (λ (n : ℕ). After n (replyOf x s′ a .session)) n (after-next t s′ A a true (w .is-taken))))
-      ∙ sym (ap (λ (b : Bool). map (part (c .k + c .p)) (cond b (a ∷ taken readNow c (suc t) calls) (taken readNow c t calls))) (eq-eqb (refusal readNow c t a) 0 (w .is))))
+      ∙ sym (ap (λ (b : Bool). map (part (c .k + c .p)) (cond b (a ∷ takenCalls readNow c (suc t) calls) (takenCalls readNow c t calls))) (eq-eqb (refusal readNow c t a) 0 (w .is))))
       (λ (w : Refused c G t a).
       parts-next t s′ A part a calls false (w .not-taken)
       ∙ ap (λ (r : Reply S). takenParts part x (r .session) calls) (refused-next t s′ A a w)
       ∙ taken-from part calls t s′ A
       ∙ sym
-      (ap (λ (b : Bool). map (part (c .k + c .p)) (cond b (a ∷ taken readNow c (suc t) calls) (taken readNow c t calls)))
+      (ap (λ (b : Bool). map (part (c .k + c .p)) (cond b (a ∷ takenCalls readNow c (suc t) calls) (takenCalls readNow c t calls)))
       (ne-eqb (refusal readNow c t a) 0 (λ z. let e = w .is in omega arith))))
       (taken-or-refused c G t a)
 
-  pub taken-is : (part : ℕ → Call → ℕ) (calls : List Call) → takenParts part x s calls ≡ map (part (c .k + c .p)) (taken readNow c 0 calls)
+  pub taken-is : (part : ℕ → Call → ℕ) (calls : List Call) → takenParts part x s calls ≡ map (part (c .k + c .p)) (takenCalls readNow c 0 calls)
   taken-is part calls = taken-from part calls 0 s start
 
   -- what is answered: where the calls that are taken get the answers `given` from t on, and these are those of their turns
@@ -180,11 +180,11 @@ module _ {S : Type 0} (x : Circuit S) (c : Card) (G : Guarantees c) (s : S) (car
     answered calls e = answered-from calls 0 s start e
 
   -- a refused call
-  pub unchanged : (calls : List Call) (a : Call) → (refusal readNow c (length (taken readNow c 0 calls)) a ≡ 0 → ⊥) → sessionAfter x s (calls ++ (a ∷ [])) ≡ sessionAfter x s calls
+  pub unchanged : (calls : List Call) (a : Call) → (refusal readNow c (length (takenCalls readNow c 0 calls)) a ≡ 0 → ⊥) → sessionAfter x s (calls ++ (a ∷ [])) ≡ sessionAfter x s calls
   unfolding sessionAfter refusedOf
   unchanged calls a ne =
       let s′ = sessionAfter x s calls in
-      let t = length (taken readNow c 0 calls) in
+      let t = length (takenCalls readNow c 0 calls) in
       let A : After t s′ = record { before = calls; session-is = refl; count-is = ap length (taken-is call.frameIn calls) ∙ simp length-map } in
       session-append x calls (a ∷ []) s
       ∙ ⊎-elim (λ (w : Taken c G t a). absurd (ne (w .is))) (λ (w : Refused c G t a). ap (λ (r : Reply S). r .session) (refused-next t s′ A a w)) (taken-or-refused c G t a)

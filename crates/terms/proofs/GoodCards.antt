@@ -17,7 +17,7 @@ use Rattle.card.specs.declared.CardRead as declared
 use Rattle.card.specs.declared.CardRule.the-variants.{Present}
 use Rattle.card.proofs.Defaults.{stated-most, default-stated, stated-default, none-changes}
 use Rattle.card.proofs.Stores.{noStream}
-use Rattle.terms.specs.Terms.{Masks, WithinLimits, TrulyOrthogonal, GoodCard, CardRead}
+use Rattle.terms.specs.Terms.{Masks, WithinLimits, OrthogonalChecks, GoodCard, CardRead}
 
 -- ---- what holds of every element of a list, said along the list and place by place
 module _ {A : Type 0} (Each : A → Type 0) (All : List A → Type 0) (d : A) where
@@ -125,14 +125,14 @@ own-error i b s n =
     ⊎-elim (λ z. ⊎-elim (λ e. (z, e)) (λ e. absurd (n (λ _. e))) (same-or-not s i)) (λ z. absurd (n (λ y _. z y))) (same-or-not b 0)
 
 module _ (c : Card) where
-  truly-orthogonal : ((i : ℕ) → i < c .k → Orthogonal c i) → TrulyOrthogonal c
+  truly-orthogonal : ((i : ℕ) → i < c .k → Orthogonal c i) → OrthogonalChecks c
   truly-orthogonal o =
       record {
         each-own = λ i q h. o i h .own q;
         no-other-by-two = λ i q r b s h l lr lb ls t u. own-error i b s (λ other. o i h .apart b s q r lb ls other l lr t u);
       }
 
-  orthogonal : TrulyOrthogonal c → (i : ℕ) → i < c .k → Orthogonal c i
+  orthogonal : OrthogonalChecks c → (i : ℕ) → i < c .k → Orthogonal c i
   orthogonal o i h =
       record {
         own = λ q. o .each-own i q h;

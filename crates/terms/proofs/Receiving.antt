@@ -25,14 +25,14 @@ use Rattle.receiving.specs.Calls.{Call, takenFrames, takenErased, answers, answ
 use Rattle.receiving.specs.Claims.{ByRule}
 use Rattle.receiving.specs.Receive.{Circuit}
 use Rattle.receiving.proofs.Answers.{answers-length, first-waiting, then-frames}
-use Rattle.terms.specs.Terms.{handed, framesTaken, erasedTaken, taken, ByTheRule, WholeStream, FewWrong, FewWrongOfVotes, handedOut, readNow, Receives}
+use Rattle.terms.specs.Terms.{handed, framesTaken, erasedTaken, takenCalls, ByTheRule, WholeStream, FewWrong, FewWrongOfVotes, framesOut, readNow, Receives}
 use Rattle.terms.proofs.Band.{as-before}
 use Rattle.terms.proofs.Calls.{frame-is, erased-is}
 use Rattle.terms.proofs.Following as following
 use Rattle.terms.proofs.Rule.{decided-is, few-of-votes, few-of-checks}
 
-handed-out : (given : List Given) → handedOut given ≡ call.handedIn given
-unfolding handedOut call.handedIn call.handedBy
+handed-out : (given : List Given) → framesOut given ≡ call.handedIn given
+unfolding framesOut call.handedIn call.handedBy
 handed-out [] = refl
 handed-out (waiting ∷ later) = handed-out later
 handed-out (frame f ∷ later) = ap (λ (l : List ℕ). f ∷ l) (handed-out later)
@@ -62,12 +62,12 @@ module _ {S : Type 0} (x : Circuit S) (hands : Card → List ℕ → List ℕ �
   pub frames-are : (calls : List Call) → takenFrames x s calls ≡ framesTaken readNow c calls
   frames-are calls =
       following.taken-is x c G s (B .card-kept) (B .counted) call.frameIn calls
-      ∙ ap (λ (f : Call → ℕ). map f (taken readNow c 0 calls)) (fun-ext (λ a. sym (frame-is (c .k + c .p) a)))
+      ∙ ap (λ (f : Call → ℕ). map f (takenCalls readNow c 0 calls)) (fun-ext (λ a. sym (frame-is (c .k + c .p) a)))
 
   pub erased-are : (calls : List Call) → takenErased x s calls ≡ erasedTaken readNow c calls
   erased-are calls =
       following.taken-is x c G s (B .card-kept) (B .counted) call.erasedIn calls
-      ∙ ap (λ (f : Call → ℕ). map f (taken readNow c 0 calls)) (fun-ext (λ a. sym (erased-is (c .k + c .p) a)))
+      ∙ ap (λ (f : Call → ℕ). map f (takenCalls readNow c 0 calls)) (fun-ext (λ a. sym (erased-is (c .k + c .p) a)))
 
   answered : (calls : List Call) → ByTheRule readNow c calls (answers x s calls)
   answered calls =
@@ -83,7 +83,7 @@ module _ {S : Type 0} (x : Circuit S) (hands : Card → List ℕ → List ℕ �
 
   -- a whole stream that is correctable
   came-out : (calls : List Call) (info : List ℕ) → WholeStream c info (framesTaken readNow c calls)
-      → Correctable c info (framesTaken readNow c calls) (erasedTaken readNow c calls) → handedOut (answers x s calls) ≡ info
+      → Correctable c info (framesTaken readNow c calls) (erasedTaken readNow c calls) → framesOut (answers x s calls) ≡ info
   came-out calls info whole few =
       handed-out (answers x s calls)
       ∙ B .comes-out-as-sent calls info (whole .0) (ap length (frames-are calls) ∙ whole .1)

@@ -140,16 +140,16 @@ refusal read c t call =
     ∷ when 12 (ltb 0 (digitsOf 12 read n call)) ∷ [])
 
 -- the calls that are taken: those that meet none of these
-unfoldable pub taken : (Reading → ℕ) → Card → ℕ → List Call → List Call
-taken read c t [] = []
-taken read c t (call ∷ calls) = cond (eqb (refusal read c t call) 0) (call ∷ taken read c (suc t) calls) (taken read c t calls)
+unfoldable pub takenCalls : (Reading → ℕ) → Card → ℕ → List Call → List Call
+takenCalls read c t [] = []
+takenCalls read c t (call ∷ calls) = cond (eqb (refusal read c t call) 0) (call ∷ takenCalls read c (suc t) calls) (takenCalls read c t calls)
 
 -- the frames taken, and which of their digits are erased
 abbrev pub framesTaken : (Reading → ℕ) → Card → List Call → List ℕ
-framesTaken read c calls = map (digitsOf 1 read (c .k + c .p)) (taken read c 0 calls)
+framesTaken read c calls = map (digitsOf 1 read (c .k + c .p)) (takenCalls read c 0 calls)
 
 abbrev pub erasedTaken : (Reading → ℕ) → Card → List Call → List ℕ
-erasedTaken read c calls = map (digitsOf 2 read (c .k + c .p)) (taken read c 0 calls)
+erasedTaken read c calls = map (digitsOf 2 read (c .k + c .p)) (takenCalls read c 0 calls)
 
 -- the answers, after t frames: "the first m frames give 'waiting'; each later one gives the frame m before it", which `out` has by its time
 unfoldable pub answersTo : (Reading → ℕ) → Card → (ℕ → ℕ) → ℕ → List Call → List Given
@@ -202,11 +202,11 @@ pub record BurstReceived (read : CardOutcome) (input output : List ℕ) (answer 
       → (answer ≡ pos (length info)) × (take (length info) after ≡ info)
 
 -- the frames that answers hand out, in the order of the calls
-unfoldable pub handedOut : List Given → List ℕ
-handedOut [] = []
-handedOut (waiting ∷ later) = handedOut later
-handedOut (frame f ∷ later) = f ∷ handedOut later
-handedOut (answer.refused number ∷ later) = handedOut later
+unfoldable pub framesOut : List Given → List ℕ
+framesOut [] = []
+framesOut (waiting ∷ later) = framesOut later
+framesOut (frame f ∷ later) = f ∷ framesOut later
+framesOut (answer.refused number ∷ later) = framesOut later
 
 -- ---- R-7: a band around zero
 
@@ -234,16 +234,16 @@ Outside n (readings number levels) = (s : ℕ) → s < n → (sign : Bool) (m : 
 pub record Receives {S : Type 0} (x : Circuit S) (c : Card) (s : S) : Type 0 where
   pub answered : (calls : List Call) → ByTheRule readNow c calls (answers x s calls)
   -- a refused call leaves the session as it stood
-  pub unchanged : (calls : List Call) (call : Call) → (refusal readNow c (length (taken readNow c 0 calls)) call ≡ 0 → ⊥)
+  pub unchanged : (calls : List Call) (call : Call) → (refusal readNow c (length (takenCalls readNow c 0 calls)) call ≡ 0 → ⊥)
       → sessionAfter x s (calls ++ (call ∷ [])) ≡ sessionAfter x s calls
   -- the notice's, where nothing is erased
   pub comes-out-as-sent : (calls : List Call) (info : List ℕ) → let frames = framesTaken readNow c calls in
-      ((u : ℕ) → getD (erasedTaken readNow c calls) u 0 ≡ 0) → WholeStream c info frames → FewWrong c info frames → handedOut (answers x s calls) ≡ info
+      ((u : ℕ) → getD (erasedTaken readNow c calls) u 0 ≡ 0) → WholeStream c info frames → FewWrong c info frames → framesOut (answers x s calls) ≡ info
   -- R-6's
   pub comes-out-of-votes : (calls : List Call) (info : List ℕ) → let frames = framesTaken readNow c calls in
-      WholeStream c info frames → FewWrongOfVotes c info frames (erasedTaken readNow c calls) → handedOut (answers x s calls) ≡ info
+      WholeStream c info frames → FewWrongOfVotes c info frames (erasedTaken readNow c calls) → framesOut (answers x s calls) ≡ info
   -- R-7: "Sessions whose levels all lie outside the band decode as they did"
-  pub as-before : (calls : List Call) → ((t : ℕ) → Outside (c .k + c .p) (getD (taken readNow c 0 calls) t (byte 0 0))) → ByTheRule readBefore c calls (answers x s calls)
+  pub as-before : (calls : List Call) → ((t : ℕ) → Outside (c .k + c .p) (getD (takenCalls readNow c 0 calls) t (byte 0 0))) → ByTheRule readBefore c calls (answers x s calls)
 
 -- document 01's "link figure": the ones in the syndromes of received frames later than the last frame handed out, feedback taken out
 abbrev pub figure : Card → List ℕ → List ℕ → ℕ
@@ -290,7 +290,7 @@ pub record WithinLimits (h : Head) (generators : List (List ℕ)) (streams : Lis
   pub checks-in-range : (i q : ℕ) → i < h .k → q < getD streams i noStream .count → Masks (h .n - h .k) (h .m) (getD (getD streams i noStream .checks) q [])
 
 -- "orthogonal if each touches (0, i), and no other error is touched by two of them"
-pub record TrulyOrthogonal (c : Card) : Type 0 where
+pub record OrthogonalChecks (c : Card) : Type 0 where
   pub each-own : (i q : ℕ) → i < c .k → q < count c i → touches c i q 0 i ≡ 1
   pub no-other-by-two : (i q r b s : ℕ) → i < c .k → q < r → r < count c i → b ≤ c .m → s < c .k + c .p → touches c i q b s ≡ 1 → touches c i r b s ≡ 1
       → (b ≡ 0) × (s ≡ i)
@@ -299,7 +299,7 @@ pub record TrulyOrthogonal (c : Card) : Type 0 where
 pub record GoodCard (bytes : List ℕ) (f : Fields) : Type 0 where
   pub bytes-are : bytes ≡ layout f
   pub limits : WithinLimits (f .head) (f .rows) (f .streams)
-  pub orthogonal : TrulyOrthogonal (cardOf f)
+  pub orthogonal : OrthogonalChecks (cardOf f)
 
 -- what reading a card's bytes comes to
 pub record CardRead (bytes : List ℕ) (read : CardOutcome) : Type 0 where
