@@ -168,6 +168,7 @@ fn whole_bursts() {
           T receives the burst 4, 4, 4, 0, 0 into 3 bytes|T\x03\x04\x04\x04\x00\x00;\
           k 4, n 8 receives the burst 16, 2, 187, 240 into 3 bytes|E\x03\x10\x02\xbb\xf0;\
           m 0 receives the burst 7, 6, 2, 1 into 4 bytes|M\x04\x07\x06\x02\x01;\
+          k 3, n 6 receives the burst 31, 56, 24, four digits wrong, into 1 byte|W\x01\x1f\x38\x18;\
           P receives an empty burst into 1 byte|P\x01;\
           Q receives the burst 2, 2 into 1 byte|Q\x01\x02\x02;\
           Q receives the burst 2, 2, 0 into 1 byte|Q\x01\x02\x02\x00;\

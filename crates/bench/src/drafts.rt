@@ -33,10 +33,11 @@ pub(crate) fn named(letter: u8) -> Draft {
         b'e' => of(b"\x02\x01\x02"),
         b'f' => of(b"\x03\x01\x01"),
         b'h' => of(b"\x01\x01"),
-        // P with m 31 and its terms far apart; no memory; all eight streams; sixteen checks; the most bytes.
+        // P with m 31 and its terms far apart; no memory; all eight streams; unequal J; sixteen checks; the most bytes.
         b'F' => document::p_reaching_31(),
         b'M' => streams::repetition(),
         b'E' => streams::all_eight(),
+        b'W' => streams::wide(),
         b'S' => streams::self_orthogonal(),
         b'L' => longest::longest(),
         _ => empty(),

@@ -20,9 +20,10 @@ pub(crate) fn cases() {
     received_bursts();
 }
 
-// A count of frames by the sign that a row has for it: as many as a stream may have, one fewer, or one more.
+// A count of frames by the sign that a row has for it: as many as a stream may have, two fewer, one fewer, or one more.
 pub(crate) fn count(sign: u8) -> usize {
     match sign {
+        b'_' => MOST_FRAMES - 2,
         b'-' => MOST_FRAMES - 1,
         b'+' => MOST_FRAMES + 1,
         _ => MOST_FRAMES,
@@ -62,7 +63,8 @@ fn sending_sessions() {
     tables::each(
         Kind::Sending,
         b"P sends 1 for 1048575 times, then 1, 2, two tail frames and 1|P-\x01\x02tt\x01;\
-          m 0 sends 1 for 1048576 times, then 1, 2 and a tail frame|M=\x01\x02t;",
+          m 0 sends 1 for 1048576 times, then 1, 2 and a tail frame|M=\x01\x02t;\
+          m 2 sends 1 for 1048575 times, then 8, three tail frames and 8|W-\x08ttt\x08;",
     );
 }
 
@@ -70,7 +72,8 @@ fn sending_sessions() {
 fn receiving_session() {
     tables::each(
         Kind::Receiving,
-        b"P receives 0 for 1048576 times, then 0, 4 and NaN, then 0 under card number 8|P=\x00\x04n 8 \x00;",
+        b"P receives 0 for 1048576 times, then 0, 4 and NaN, then 0 under card number 8|P=\x00\x04n 8 \x00;\
+          card number 200 receives 0 for 1048576 times, then 63, 64 and NaN, then 0 under card number 8|W=\x3f\x40n 8 \x00;",
     );
 }
 
@@ -104,7 +107,9 @@ fn sent_bursts() {
         b"P sends a burst of 1048575 frames|P-\x01;\
           P sends a burst of 1048576 frames|P=\x01;\
           m 0 sends a burst of 1048576 frames|M=\x01;\
-          m 0 sends a burst of 1048577 frames|M+\x01;",
+          m 0 sends a burst of 1048577 frames|M+\x01;\
+          m 2 sends a burst of 1048574 frames|W_\x01;\
+          m 2 sends a burst of 1048575 frames|W-\x01;",
     );
 }
 
@@ -115,6 +120,8 @@ fn received_bursts() {
         b"P receives a burst of 1048576 frames|P=\x00;\
           P receives a burst of 1048577 frames|P+\x00;\
           m 0 receives a burst of 1048576 frames|M=\x00;\
-          m 0 receives a burst of 1048577 frames|M+\x00;",
+          m 0 receives a burst of 1048577 frames|M+\x00;\
+          m 2 receives a burst of 1048576 frames|W=\x00;\
+          m 2 receives a burst of 1048577 frames|W+\x00;",
     );
 }

@@ -84,7 +84,8 @@ fn memory_and_streams() {
           k 4, n 5|K\x04\x05\x0f\x00;\
           k 4, n 8|K\x04\x08\x11\x11;\
           k 4, n 9|K\x04\x09\x11\x11;\
-          k 2, n by default|n;",
+          k 2, n by default|n;\
+          k 3, n 6, J 4, 2 and 3|W;",
     );
 }
 

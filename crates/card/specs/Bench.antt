@@ -1,6 +1,6 @@
 -- The bytes of the cards on the bench: document 01, "Cards on the bench" and "The card".
 -- P is given there in hexadecimal. Q, R and T are written here from its words, with the checks as parameters, each as the sum of its
--- syndromes: R has s 0, s 3, s 4, and s 1 + s 5. What they state is in `code`, `Bench`.
+-- syndromes: R has s 0, s 3, s 4, and s 1 + s 5. Wide is ours. What they state is in `code`, `Bench`.
 -- Assumes nothing.
 use Prim.Native.Nat.{ℕ}
 use mathlib.Core.List.{List, [], _∷_, _++_}
@@ -44,3 +44,12 @@ cardR vs = 0 ∷ 9 ∷ 5 ∷ 1 ∷ 0 ∷ mask 57 ++ stream vs
 -- "T: k 2, n 3, m 2, generators 3 and 5", with the checks of stream 1 and of stream 2
 abbrev pub cardT : List ℕ → List ℕ → List ℕ
 cardT vs ws = 3 ∷ 10 ∷ 2 ∷ 3 ∷ 2 ∷ 3 ∷ 0 ∷ mask 3 ++ mask 5 ++ stream vs ++ stream ws
+
+-- Wide: k 3, n 6, m 2. Of the nine generators all but the second of stream 2 and the first of stream 3 stand; a check's map byte is 1, 2 or 4 for one of
+-- the parity streams, and 5 for the first and the third
+abbrev pub cardWide : List ℕ
+cardWide =
+    3 ∷ 200 ∷ 3 ∷ 6 ∷ 2 ∷ 175 ∷ 1 ∷ mask 3 ++ mask 2 ++ mask 6 ++ mask 4 ++ mask 7 ++ mask 7 ++ mask 4
+    ++ 4 ∷ 1 ∷ mask 1 ++ 1 ∷ mask 2 ++ 2 ∷ mask 2 ++ 4 ∷ mask 2
+    ++ 2 ∷ 4 ∷ mask 1 ++ 1 ∷ mask 4
+    ++ 3 ∷ 2 ∷ mask 1 ++ 2 ∷ mask 4 ++ 5 ∷ mask 2 ++ mask 4

@@ -6,9 +6,9 @@ use mathlib.Core.Logic.{inl, inr}
 use native.Mathlib.Omega.{arith}
 use lib.ListN.{length, take, drop, drop-of-length-le}
 use lib.IntN.{pos, negℤ}
-use Rattle.code.specs.Bench.{s}
+use Rattle.code.specs.Bench.{s, Six}
 use Rattle.card.specs.Bench.{checks, cardP, cardQ}
-use Rattle.card.specs.Fields.{cardOf}
+use Rattle.card.specs.Fields.{store, storeRows, storeChecks, storeStreams, storeCounts, cardOf}
 use Rattle.card.specs.Layout.{bytes4, stands, mapOf, layoutMasks, optional, layoutHead, allRows, layoutRows, layoutChecks, layoutStreams, layout}
 use Rattle.card.specs.Outcome.{CardOutcome, outcomeOf}
 use Rattle.card.specs.Outcome.Outcome.{accepted}
@@ -42,6 +42,11 @@ module _ (claims : StandardCards) where
   bytes-are : (standardCard 2 ≡ two) × (standardCard 3 ≡ three)
   unfolding stated lastOf maskOf fieldsBy bytes4 stands mapOf layoutMasks optional layoutHead allRows layoutRows layoutChecks layoutStreams layout checks
   bytes-are = (by-terms 2, by-terms 3)
+
+  -- the card of six
+  pub six-is : cardOf (standardFields 6) ≡ Six
+  unfolding standardFields lastOf maskOf fieldsBy store storeRows storeChecks storeStreams storeCounts cardOf
+  six-is = ap (λ (t : List ℕ). cardOf (fieldsBy (take 6 t))) (claims .terms-are)
 
   module _ (output : List ℕ) where
     given : (J : ℕ) → 2 ≤ J → J ≤ 7 → {bytes : List ℕ} → standardCard J ≡ bytes → length bytes ≤ length output → standardOf J output ≡ givenOf bytes output

@@ -6,19 +6,28 @@ ghost use mathlib.Core.Path.{_≡_};
 ghost use Rattle.code.specs.Guarantees.{Guarantees};
 ghost use Rattle.code.specs.declared.Card.{Card};
 ghost use Rattle.majority.specs.AsSent as AsSent;
-ghost use Rattle.majority.specs.Edges.{Edges, ErasedEdges};
+ghost use Rattle.encoder.specs.Edges.{SendingEdges};
+ghost use Rattle.majority.specs.Edges.{Edges, LargerEdges, ErasedEdges, LargerErasedEdges};
 ghost use Rattle.majority.specs.Erased.{ErasedRows};
+ghost use Rattle.majority.specs.Figures.{FigureRows};
 ghost use Rattle.majority.specs.Plain.{Correctable, NoneErased, Former};
 ghost use Rattle.majority.specs.Rule.{decoded, figureBy};
 ghost use Rattle.majority.specs.SecondCircuit.{decodedByDigits};
 ghost use Rattle.outcomes.specs.Admissions.{Admissions};
 ghost use Rattle.outcomes.specs.Claims.{SentAs};
+ghost use Rattle.receiving.specs.Admissions as calls;
 ghost use Rattle.receiving.specs.LevelRows.{LevelRows};
 ghost use Rattle.standard.specs.Edges.{TermEdges};
 
 // The third term's.
 pub fn conditions_are_met()
     ensures { λ _. ⌜ Edges Correctable × ErasedEdges AsSent.Correctable × Edges SentAs × Admissions ⌝ }
+    ensures { λ _. ⌜ LargerEdges Correctable × LargerErasedEdges AsSent.Correctable × LargerEdges SentAs ⌝ }
+{}
+
+// Those under which a session's calls are refused, for cards with a long memory, several streams, or a number above 15.
+pub fn calls_are_admitted()
+    ensures { λ _. ⌜ SendingEdges × calls.Admissions ⌝ }
 {}
 
 // What comes out where digits are erased, by both circuits.
@@ -44,6 +53,11 @@ pub fn terms_are_taken()
 // The link figure where no syndrome is held: before the first frame, and without memory.
 pub fn figure_is_zero()
     ensures { λ _. ⌜ ((c : Card) → figureBy c [] [] ≡ 0) × ((c : Card) (frames erased : List ℕ) → c .m ≡ 0 → figureBy c frames erased ≡ 0) ⌝ }
+{}
+
+// .. and where some are, in three parity streams and in a long memory.
+pub fn figure_counts_every_syndrome()
+    ensures { λ _. ⌜ FigureRows ⌝ }
 {}
 
 // Both circuits give equal frames, for every accepted card and every stream, whichever digits are erased.

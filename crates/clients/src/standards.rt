@@ -4,7 +4,7 @@ ghost use mathlib.Core.List.{[], _∷_, _++_};
 ghost use Prim.Native.Nat.{_≤_};
 ghost use lib.ListN.{drop};
 ghost use lib.IntN.{pos, negℤ};
-ghost use Rattle.code.specs.Bench.{s};
+ghost use Rattle.code.specs.Bench.{s, Six};
 ghost use Rattle.card.specs.Bench.{cardP, cardQ};
 ghost use Rattle.card.specs.Fields.{cardOf};
 ghost use Rattle.card.specs.Outcome.{outcomeOf};
@@ -40,6 +40,13 @@ pub fn each_is_accepted(checks: u32) -> CardRead
         CardWritten::Count(count) => card::read_card(CardRule::Present, &output[..count]),
         CardWritten::Refused(_) => card::read_card(CardRule::Present, b""),
     }
+}
+
+// The card with six checks, of which rows at an edge speak.
+pub fn six_checks() -> CardRead
+    ensures { λ r. ⌜ (outcomeOf (r .verdict) ≡ accepted) × (r .card ≡ Six) ⌝ }
+{
+    each_is_accepted(6)
 }
 
 // An output that is a byte shorter than the longest of them is left as it was: `length-is`.

@@ -1,7 +1,7 @@
 // Clients of the promises of the card writer.
 ghost use mathlib.Core.Path.{_≡_};
 ghost use mathlib.Core.List.{_++_};
-ghost use lib.ListN.{drop};
+ghost use lib.ListN.{take, drop};
 ghost use lib.IntN.{pos, negℤ};
 ghost use Rattle.code.specs.Bench as Bench;
 ghost use Rattle.card.specs.Bench.{cardP};
@@ -35,6 +35,13 @@ pub fn t_is_carried_on(output: &mut [u8; 37]) -> i32
     ensures { λ r. ⌜ readCard (now (output .exit)) ≡ record { outcome = accepted; card = Bench.T } ⌝ }
 {
     burst::write::card_write(&T, output)
+}
+
+// What is written of P, which is shorter, is read as P, wherever the output ends: `reads-back`.
+pub fn p_is_carried_on(output: &mut [u8; 22]) -> i32
+    ensures { λ r. ⌜ readCard (take 20 (now (output .exit))) ≡ record { outcome = accepted; card = Bench.P } ⌝ }
+{
+    burst::write::card_write(&P, output)
 }
 
 // P with its defaults stated is refused, though there is room.

@@ -1,5 +1,6 @@
--- The cards of document 01, "Cards on the bench", as what they state. `card`, `Bench`, has their bytes.
--- All four have one parity stream. The document gives Q, R and T no card numbers; they have those after P's.
+-- The cards of document 01, "Cards on the bench", as what they state, and two larger ones, Six and Wide, for rows at an edge that small cards don't
+-- reach. `card`, `Bench`, has the bytes of all but Six.
+-- The document's four have one parity stream. It gives Q, R and T no card numbers; they have those after P's.
 -- Assumes nothing.
 use Prim.Native.Nat.{ℕ, _+_, _^_}
 use mathlib.Core.List.{List, _∷_, _++_}
@@ -13,6 +14,10 @@ s a = 2 ^ a
 -- a check over parity stream 1 alone, in the table's stride
 abbrev check : ℕ → List ℕ
 check v = v ∷ replicate 7 0
+
+-- masks over parity streams 1 to 3, in the table's stride: those of a check, or the generators of an information stream
+abbrev over : ℕ → ℕ → ℕ → List ℕ
+over u v w = u ∷ v ∷ w ∷ replicate 5 0
 
 -- "Card P": k 1, n 2, m 1, generator 3 (terms 0, 1), checks s0, s1
 abbrev pub P : Card
@@ -64,4 +69,34 @@ T =
       generators = 3 ∷ replicate 7 0 ++ 5 ∷ replicate 23 0;
       counts = 2 ∷ 2 ∷ replicate 2 0;
       checks = check (s 0) ++ check (s 1) ++ replicate 112 0 ++ check (s 0) ++ check (s 2) ++ replicate 368 0;
+    }
+
+-- the standard card with six checks: document 02, R-5, its terms 0, 1, 3, 7, 12, 20, m the last of them
+abbrev pub Six : Card
+Six =
+    record {
+      number = 6;
+      k = 1;
+      p = 1;
+      m = 20;
+      generators = (s 0 + s 1 + s 3 + s 7 + s 12 + s 20) ∷ replicate 31 0;
+      counts = 6 ∷ replicate 3 0;
+      checks = check (s 0) ++ check (s 1) ++ check (s 3) ++ check (s 7) ++ check (s 12) ++ check (s 20) ++ replicate 464 0;
+    }
+
+-- ours, found by a search: k 3, n 6, m 2, and a card number above 15. J is 4, 2 and 3; the checks of stream 1 are on all three parity streams, and the
+-- last one of stream 3 is s1 of parity stream 1 and s2 of parity stream 3
+abbrev pub Wide : Card
+Wide =
+    record {
+      number = 200;
+      k = 3;
+      p = 3;
+      m = 2;
+      generators = over 3 2 6 ++ over 4 0 7 ++ over 0 7 4 ++ replicate 8 0;
+      counts = 4 ∷ 2 ∷ 3 ∷ replicate 1 0;
+      checks =
+          over (s 0) 0 0 ++ over (s 1) 0 0 ++ over 0 (s 1) 0 ++ over 0 0 (s 1) ++ replicate 96 0
+          ++ over 0 0 (s 0) ++ over (s 2) 0 0 ++ replicate 112 0
+          ++ over 0 (s 0) 0 ++ over 0 (s 2) 0 ++ over (s 1) 0 (s 2) ++ replicate 232 0;
     }

@@ -4,3 +4,4 @@ pub mod Counting
 pub mod Claim
 pub mod Opening
 pub mod Example
+pub mod Edges

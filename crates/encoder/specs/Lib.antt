@@ -4,3 +4,4 @@ pub mod Calls
 pub mod Claims
 pub mod Opening
 pub mod Example
+pub mod Edges

@@ -22,6 +22,8 @@ edges =
       P-own = all-at-most-twice _ _ _ _ refl;
       P-own-and-parity = λ few. let h = few 0 0 (omega arith) (omega arith) in omega arith;
       P-none = all-at-most-twice _ _ _ _ refl;
+      P-long = all-at-most-twice _ _ _ _ refl;
+      P-long-last = λ few. let h = few 19 0 (omega arith) (omega arith) in omega arith;
       Q-one = all-at-most-twice _ _ _ _ refl;
       Q-two = λ few. let h = few 0 0 (omega arith) (omega arith) in omega arith;
       Q-tail = all-at-most-twice _ _ _ _ refl;

@@ -26,4 +26,9 @@ erased-rows =
       two-syndromes-lost = refl;
       own-stream = refl;
       other-stream = refl;
+      five-votes = refl;
+      parity-3-lost = refl;
+      parity-3-not-lost = refl;
+      parity-2-lost = refl;
+      parity-2-not-lost = refl;
     }

@@ -8,6 +8,8 @@ pub mod Theorem
 pub mod Plain
 pub mod Edges
 pub mod Erased
+pub mod WrongTouched
+pub mod LargerEdges
 -- the second circuit
 pub mod SecondCircuit
 -- the link figure

@@ -26,10 +26,10 @@ use Rattle.majority.proofs.Streams as streams
 use Rattle.majority.proofs.Theorem as theorem
 
 module _ (c : Card) (erased : List ℕ) (u : ℕ) (none : NoneErased c erased u) where
-  every-votes : (i q : ℕ) → voting c erased u i q ≡ 1
+  pub every-votes : (i q : ℕ) → voting c erased u i q ≡ 1
   unfolding voting
   every-votes i q =
-      omega (arith, no-clash c i (checkMask c i q) (λ b s. digit erased s (u + b)) (λ b s lb ls ne e l. let z = none b s lb ls in absurd (omega arith)))
+      ap (λ x. 1 - x) (no-clash c i (checkMask c i q) _ (λ b s lb ls ne e l. let z = none b s lb ls in absurd (omega arith)))
 
   pub all-vote : (i : ℕ) → voters c erased u i ≡ count c i
   unfolding voters

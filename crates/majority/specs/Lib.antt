@@ -4,3 +4,4 @@ pub mod AsSent
 pub mod Plain
 pub mod Edges
 pub mod Erased
+pub mod Figures

@@ -5,11 +5,11 @@ use Prim.Native.Nat.{ℕ}
 use lib.ListN.{take}
 use Rattle.bits.specs.Sums.{sumBelow, back}
 use Rattle.bits.specs.Digits.{bit}
-use Rattle.code.specs.Bench.{s, P, T}
+use Rattle.code.specs.Bench.{s, P, T, Wide}
 use Rattle.code.specs.Code.{generator}
 use Rattle.code.specs.Checks.{count, checkMask, touchesInfo, touchesBy, besides}
 use Rattle.code.specs.Judging.{clashes, judge}
-use Rattle.card.specs.Bench.{checks, cardP, storedP, cardT}
+use Rattle.card.specs.Bench.{checks, cardP, storedP, cardT, cardWide}
 use Rattle.card.specs.Fields.{store, storeRows, storeChecks, storeStreams, storeCounts, cardOf}
 use Rattle.card.specs.Outcome.Outcome.{accepted, refused}
 use Rattle.card.specs.Reading.{byteField, standingField, kField, nField, mapField, wordAt, maskField, readHead, standingMask, readMasks, readRows, readGenerators}
@@ -27,9 +27,9 @@ wrongT = cardT (s 0 ∷ s 2 ∷ []) (s 0 ∷ s 2 ∷ [])
 computed : (readCard cardP ≡ record { outcome = accepted; card = P }) × (readCard (take 19 cardP) .outcome ≡ refused 1 19)
     × (readCard bytesT ≡ record { outcome = accepted; card = T }) × (readCard wrongT .outcome ≡ refused 8 21) × (readUnder Former wrongT .outcome ≡ refused 8 21)
     × (readUnder Former storedP ≡ record { outcome = accepted; card = P }) × (readCard storedP .outcome ≡ refused 18 2)
-    × (readUnder Former (take 19 cardP) .outcome ≡ refused 1 19)
+    × (readUnder Former (take 19 cardP) .outcome ≡ refused 1 19) × (readCard cardWide ≡ record { outcome = accepted; card = Wide })
 unfolding sumBelow back bit generator count checkMask touchesInfo touchesBy store storeRows storeChecks storeStreams storeCounts cardOf byteField standingField kField nField mapField wordAt maskField readHead standingMask readMasks readRows readGenerators besides touchedBy clashes judge readCheck readChecks readStreams readFields readUnder checks
-computed = (refl, refl, refl, refl, refl, refl, refl, refl)
+computed = (refl, refl, refl, refl, refl, refl, refl, refl, refl)
 
 pub read-P : readCard cardP ≡ record { outcome = accepted; card = P }
 read-P = computed .0
@@ -52,3 +52,6 @@ read-stated-P = computed .6
 
 pub read-stored-short-P : readUnder Former (take 19 cardP) .outcome ≡ refused 1 19
 read-stored-short-P = computed .7
+
+pub read-Wide : readCard cardWide ≡ record { outcome = accepted; card = Wide }
+read-Wide = computed .8

@@ -55,7 +55,7 @@ admitted-given : (card input output : List ℕ) → Admitted card input output �
 unfolding receiveOf underCard
 admitted-given card input output A =
     ap (λ (o : Outcome). underCard o (receiveUnder (readCard card .card) input output) output) (A .card-accepted)
-    ∙ receive-given (readCard card .card) input output (A .few-enough) (A .output-long-enough) (A .within-streams)
+    ∙ receive-given (readCard card .card) input output (A .few-enough) (omega arith) (A .within-streams)
 
 given-came-out : (frames output : List ℕ) {answer : ℤ} {after : List ℕ} → outcome answer after ≡ givenOf frames output → CameOut frames answer after
 unfolding givenOf

@@ -14,4 +14,5 @@ level-rows =
       quarters-in-a-frame = refl;
       near-zero-yield = refl;
       far-out-yield = refl;
+      erased-yields = refl;
     }

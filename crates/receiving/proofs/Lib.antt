@@ -4,6 +4,7 @@ pub mod Yields
 pub mod Read
 -- lists of calls
 pub mod Outcomes
+pub mod Admissions
 pub mod LevelRows
 pub mod Answers
 pub mod Follow

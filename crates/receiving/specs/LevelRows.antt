@@ -6,7 +6,7 @@ use mathlib.Core.List.{List, [], _∷_, map}
 use lib.Ieee.{binary32, ofBits}
 use Rattle.receiving.specs.Readings.{digit, erased, refusal, digitOf, yields, readFrameOf}
 use Rattle.receiving.specs.declared.Reading.{Reading}
-use Rattle.receiving.specs.declared.Reading.the-variants.{Level}
+use Rattle.receiving.specs.declared.Reading.the-variants.{Level, Erased}
 
 -- the levels of these patterns
 abbrev pub levelsOf : List ℕ → List Reading
@@ -33,3 +33,5 @@ pub record LevelRows : Type 0 where
   pub near-zero-yield : map digitOf nearZero ≡ erased ∷ erased ∷ erased ∷ erased ∷ erased ∷ erased ∷ []
   -- "or refusal 12"
   pub far-out-yield : map digitOf farOut ≡ digit 1 ∷ digit 0 ∷ refusal 12 ∷ refusal 12 ∷ refusal 12 ∷ []
+  -- the mark 'erased'
+  pub erased-yields : digitOf Erased ≡ erased

@@ -2,6 +2,7 @@ pub mod Readings
 pub mod Answers
 pub mod Receive
 pub mod Calls
+pub mod Admissions
 pub mod LevelRows
 pub mod Claims
 pub mod Opening

@@ -6,7 +6,9 @@ use native.Mathlib.Omega.{arith}
 use lib.ListN.{length, take}
 use lib.IntN.{ℤ, pos, pos-ne-negsuc}
 use lib.Signed.{mag}
+use Rattle.code.specs.Bench.{P}
 use Rattle.code.specs.declared.Card.{Card}
+use Rattle.card.specs.Bench.{cardP}
 use Rattle.card.specs.Fields.{Fields, cardOf}
 use Rattle.card.specs.Layout.{Acceptable}
 use Rattle.card.specs.Outcome.{Outcome, CardOutcome, outcomeOf}
@@ -22,6 +24,7 @@ use Rattle.card.specs.Written.{written}
 use Rattle.writer.specs.Outcome.{writeUnder, writeOf}
 use Rattle.writer.specs.Claims.{ReadsUnder, CarriesOn}
 use Rattle.outcomes.proofs.Outcomes.{front-is}
+use Rattle.outcomes.proofs.ReadCards.{read-P}
 use Rattle.writer.proofs.Answers.{write-refused, write-accepted, write-given}
 use Rattle.writer.proofs.Forms.{written-form}
 
@@ -63,7 +66,7 @@ module _ (card output : List ℕ) where
   carries-on {after = after} e =
       record {
         reads-back = λ n positive count.
-            read-back output n positive card (readCard card .outcome) (readCard card .card) refl (ap (λ (z : ℤ). outcome z after) (sym count) ∙ e);
+            read-back output n (omega arith) card (readCard card .outcome) (readCard card .card) refl (ap (λ (z : ℤ). outcome z after) (sym count) ∙ e);
         comes-back = λ f a room. e ∙ come-back f a room;
       }
 
@@ -71,3 +74,7 @@ module _ (card output : List ℕ) where
   pub wrote-card : {answer : ℤ} {after : List ℕ} → outcome answer after ≡ writeOf card output
       → (outcome answer after ≡ writeOf card output) × CarriesOn card output answer after
   wrote-card e = (e, carries-on e)
+
+-- ---- a client of the first clause, with a short card: what a call wrote of P is read as P
+pub carried-on-P : {output after : List ℕ} {answer : ℤ} → CarriesOn cardP output answer after → answer ≡ pos 20 → readCard (take 20 after) ≡ record { outcome = accepted; card = P }
+carried-on-P claim count = claim .reads-back 20 (omega arith) count ∙ read-P

@@ -1,4 +1,5 @@
-// Three cards more: one with no memory, one with all eight streams, and one with sixteen checks for its stream, the most that may be stated.
+// Four cards more: one with no memory, one with all eight streams, one with unequal numbers of checks and a number above 15, and one with sixteen checks
+// for its stream, the most that may be stated.
 // The lines are as in `document`.
 use crate::drafts;
 use crate::drafts::Draft;
@@ -23,6 +24,18 @@ pub(crate) fn all_eight() -> Draft {
           \x02\x02\x01\x00\x00\x00\x04\x02\x00\x00\x00\
           \x02\x04\x01\x00\x00\x00\x08\x02\x00\x00\x00\
           \x02\x08\x01\x00\x00\x00\x01\x02\x00\x00\x00",
+    )
+}
+
+// k 3, n 6, m 2, number 200, J 4, 2 and 3: Wide of `code`, `specs/Bench.antt`.
+pub(crate) fn wide() -> Draft {
+    drafts::of(
+        b"\x03\xc8\x03\x06\x02\xaf\x01\
+          \x03\x00\x00\x00\x02\x00\x00\x00\x06\x00\x00\x00\x04\x00\x00\x00\
+          \x07\x00\x00\x00\x07\x00\x00\x00\x04\x00\x00\x00\
+          \x04\x01\x01\x00\x00\x00\x01\x02\x00\x00\x00\x02\x02\x00\x00\x00\x04\x02\x00\x00\x00\
+          \x02\x04\x01\x00\x00\x00\x01\x04\x00\x00\x00\
+          \x03\x02\x01\x00\x00\x00\x02\x04\x00\x00\x00\x05\x02\x00\x00\x00\x04\x00\x00\x00",
     )
 }
 
