@@ -1,5 +1,5 @@
 -- The lines of the listing, put together from the parts that are written, and their lengths.
-use Prim.Native.Nat.{ℕ, zero, suc, _+_, _*_, _≤_, _<_}
+use Prim.Native.Nat.{ℕ, zero, suc, _+_, _*_, _^_, _≤_, _<_}
 use mathlib.Core.Path.{_≡_, refl, sym, ap, _∙_}
 use mathlib.Core.List.{List, [], _∷_, _++_, map, append-nil, append-assoc}
 use native.Mathlib.Nat.{add-zero}
@@ -13,6 +13,7 @@ use Rattle.bits.proofs.Digits.{bit-lt}
 use Rattle.bits.proofs.Lists.{upTo-more}
 use Rattle.outcomes.specs.Text.{text, decimal, spaced, line}
 use Rattle.outcomes.specs.Listing.{tooLongLine, refusedLine, cardLine, frameLine, frameLines, endLine}
+use Rattle.listing.specs.Written.{sizes}
 use Rattle.listing.proofs.Decimal.{decimal-digit, decimal-length}
 
 pub too-long-line : text "input too long\n" ≡ tooLongLine
@@ -26,13 +27,11 @@ refused-line number place = simp (append-assoc, append-nil)
 
 -- a line of four numbers a, b, d, e, the last three each after a word; s stands for the space, f for the line feed
 four-numbers : (s f c k n m a b d e : List ℕ)
-    → (((((c ++ s) ++ a) ++ ((s ++ (k ++ s)) ++ b)) ++ ((s ++ (n ++ s)) ++ d)) ++ ((s ++ (m ++ s)) ++ e)) ++ f
+    → (((c ++ s) ++ a) ++ (((s ++ (k ++ (s ++ b))) ++ (s ++ (n ++ (s ++ d)))) ++ (s ++ (m ++ (s ++ e))))) ++ f
     ≡ c ++ ((s ++ (a ++ (s ++ (k ++ (s ++ (b ++ (s ++ (n ++ (s ++ (d ++ (s ++ (m ++ (s ++ (e ++ [])))))))))))))) ++ f)
 four-numbers s f c k n m a b d e = simp (append-assoc, append-nil)
 
-pub card-line : (number k n m : ℕ)
-    → ((((text "card " ++ decimal number) ++ (text " k " ++ decimal k)) ++ (text " n " ++ decimal n)) ++ (text " m " ++ decimal m)) ++ text "\n"
-    ≡ cardLine number k n m
+pub card-line : (number k n m : ℕ) → ((text "card " ++ decimal number) ++ sizes k n m) ++ text "\n" ≡ cardLine number k n m
 unfolding text spaced line cardLine
 card-line number k n m =
     four-numbers (text " ") (text "\n") (text "card") (text "k") (text "n") (text "m") (decimal number) (decimal k) (decimal n) (decimal m)
@@ -104,17 +103,44 @@ digits-length (suc k) frame =
     ∙ digits-grow frame k
     ∙ omega (arith, digits-length k frame)
 
-pub frame-length : (k time frame : ℕ) → k ≤ 4 → time < 100000 → length (frameLine k time frame) ≤ 14
-unfolding text
-frame-length k time frame h l =
+-- what each line's parts come to
+pub refused-parts : (number place : ℕ) → length (refusedLine number place) ≡ 13 + (length (decimal number) + length (decimal place))
+unfolding text spaced line refusedLine
+refused-parts number place = simp length-append (omega arith)
+
+pub sizes-parts : (k n m : ℕ) → length (sizes k n m) ≡ 9 + (length (decimal k) + length (decimal n) + length (decimal m))
+sizes-parts k n m = simp length-append (omega arith)
+
+pub card-parts : (number k n m : ℕ)
+    → length (cardLine number k n m) ≡ 15 + (length (decimal number) + (length (decimal k) + length (decimal n) + length (decimal m)))
+unfolding text spaced line cardLine
+card-parts number k n m = simp length-append (omega arith)
+
+pub frame-parts : (k time frame : ℕ) → length (frameLine k time frame) ≡ length (decimal time) + 2 * k + 1
+unfolding text line frameLine
+frame-parts k time frame = simp length-append (omega (arith, digits-length k frame))
+
+end-parts : (count : ℕ) → length (endLine count) ≡ 5 + length (decimal count)
+unfolding text spaced line endLine
+end-parts count = simp length-append (omega arith)
+
+-- and what it comes to at the most
+pub refused-length : (number place : ℕ) → number < 1000 → place < 10 ^ 20 → length (refusedLine number place) ≤ 36
+refused-length number place hn hp = omega (arith, refused-parts number place, decimal-length 2 number hn, decimal-length 19 place hp)
+
+pub card-length : (number k n m : ℕ) → number < 1000 → k < 10 → n < 10 → m < 100 → length (cardLine number k n m) ≤ 22
+card-length number k n m hnumber hk hn hm =
     omega (
       arith,
-      ap length (frame-line k time frame),
-      length-append (decimal time ++ spaced (map decimal (upTo k (bit frame)))) (text "\n"),
-      length-append (decimal time) (spaced (map decimal (upTo k (bit frame)))),
-      decimal-length 4 time l,
-      digits-length k frame,
+      card-parts number k n m,
+      decimal-length 2 number hnumber,
+      decimal-length 0 k hk,
+      decimal-length 0 n hn,
+      decimal-length 1 m hm,
     )
+
+pub frame-length : (k time frame : ℕ) → k ≤ 4 → time < 100000 → length (frameLine k time frame) ≤ 14
+frame-length k time frame h l = omega (arith, frame-parts k time frame, decimal-length 4 time l)
 
 pub lines-length : (k time : ℕ) (frames : List ℕ) → k ≤ 4 → time + length frames ≤ 100000 → length (frameLines k time frames) ≤ 14 * length frames
 unfolding frameLines
@@ -128,32 +154,4 @@ lines-length k time (f ∷ frames) h l =
     )
 
 pub end-length : (count : ℕ) → count < 100000 → length (endLine count) ≤ 10
-unfolding text
-end-length count h =
-    omega (
-      arith,
-      ap length (end-line count),
-      length-append (text "end " ++ decimal count) (text "\n"),
-      length-append (text "end ") (decimal count),
-      decimal-length 4 count h,
-    )
-
-pub card-length : (number k n m : ℕ) → number < 1000 → k < 10 → n < 10 → m < 100 → length (cardLine number k n m) ≤ 22
-unfolding text
-card-length number k n m hnumber hk hn hm =
-    let a = text "card " ++ decimal number in
-    let b = text " k " ++ decimal k in
-    let d = text " n " ++ decimal n in
-    let e = text " m " ++ decimal m in
-    omega (
-      arith,
-      ap length (card-line number k n m),
-      length-append (((a ++ b) ++ d) ++ e) (text "\n"),
-      length-append ((a ++ b) ++ d) e,
-      length-append (a ++ b) d,
-      length-append a b,
-      decimal-length 2 number hnumber,
-      decimal-length 0 k hk,
-      decimal-length 0 n hn,
-      decimal-length 1 m hm,
-    )
+end-length count h = omega (arith, end-parts count, decimal-length 4 count h)

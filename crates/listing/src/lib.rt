@@ -8,6 +8,7 @@ ghost use mathlib.Core.Bool.{false};
 ghost use Prim.Native.Nat.{_+_, _≤_};
 ghost use lib.ListN.{length, take, drop};
 ghost use Rattle.bits.specs.Digits.{anyBeyond};
+ghost use Rattle.code.specs.Guarantees.{Guarantees};
 ghost use Rattle.card.specs.Outcome.Outcome.{accepted};
 ghost use Rattle.card.specs.Reading.{readCard};
 ghost use Rattle.majority.specs.Plain.{decoded};
@@ -77,17 +78,24 @@ fn receive(card: &[u8], frames: &[u8], buffer: &mut [u8]) -> usize
     burst::receive::burst_receive(card, frames, buffer) as usize
 }
 
-// The listing of frames within their streams: the card's line, a line per frame handed out, and the count of these lines.
+// The listing of frames handed out: the card's line, a line per frame, and the count of these lines.
+fn list_handed_out(card: Card, frames: &[u8], output: &mut [u8]) -> usize
+    requires { ⌜ Guarantees card × (length (now frames) ≤ 32768) × (458784 ≤ length (now output)) ⌝ }
+    ensures { λ r. ⌜ WroteWhole 458784 (now (output .entry)) (listingOf card (now (frames .entry))) (now (output .exit)) r ⌝ }
+{
+    let k = card.k;
+    let after_card = lines::card_line(output, card.number as usize, k, k + card.p, card.m);
+    lines::counted_lines(output, after_card, k, frames)
+}
+
+// The listing of what is handed out for frames within their streams.
 fn list_received(card: Card, bytes: &[u8], frames: &[u8], output: &mut [u8]) -> usize
     requires { ⌜ ReadAs (now bytes) card × (anyBeyond (card .k + card .p) (now frames) ≡ false) × (length (now frames) ≤ 32768) × (458784 ≤ length (now output)) ⌝ }
     ensures { λ r. ⌜ WroteWhole 458784 (now (output .entry)) (listingOf card (decoded card (now (frames .entry)))) (now (output .exit)) r ⌝ }
 {
-    let k = card.k;
     let mut buffer = [0u8; MOST_LISTED];
     let count = receive(bytes, frames, &mut buffer);
-    let after_card = lines::card_line(output, card.number, k, k + card.p, card.m);
-    let after_frames = lines::frame_lines(output, after_card, k, &buffer[..count]);
-    lines::end_line(output, after_frames, count)
+    list_handed_out(card, &buffer[..count], output)
 }
 
 // The listing under an accepted card. Every frame is looked at before a line is written.

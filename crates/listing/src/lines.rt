@@ -10,7 +10,8 @@ ghost use Rattle.card.specs.Refusals.{numberOf};
 ghost use Rattle.outcomes.specs.Text.{text, decimal, spaced};
 ghost use Rattle.outcomes.specs.Listing.{tooLongLine, refusedLine, cardLine, frameLine, frameLines, endLine};
 ghost use Rattle.outcomes.specs.Wrote.{Wrote};
-ghost use Rattle.listing.specs.Written.{WroteWhole};
+ghost use Rattle.listing.specs.Written.{lettered, sizes, WroteWhole};
+use crate::text::byte;
 use crate::text::number;
 use crate::text::numbered;
 use crate::text::word;
@@ -24,34 +25,56 @@ pub(crate) fn too_long(output: &mut [u8]) -> usize
     word(output, 0, b"input too long\n")
 }
 
+fn refused_line(output: &mut [u8], number: usize, place: usize) -> usize
+    requires { ⌜ 13 + (length (decimal number) + length (decimal place)) ≤ length (now output) ⌝ }
+    ensures { λ r. ⌜ Wrote (now (output .entry)) 0 (refusedLine number place) (now (output .exit)) r ⌝ }
+{
+    let after_number = numbered(output, 0, b"refused ", number);
+    let after_place = numbered(output, after_number, b" at ", place);
+    byte(output, after_place, b'\n')
+}
+
 // The number has up to three digits, the place up to twenty.
 pub(crate) fn refused(output: &mut [u8], refusal: Refusal, place: usize) -> usize
     requires { ⌜ 36 ≤ length (now output) ⌝ }
     ensures { λ r. ⌜ WroteWhole 36 (now (output .entry)) (refusedLine (numberOf refusal) place) (now (output .exit)) r ⌝ }
 {
-    let published = size(card::refusal_number(refusal));
-    let after_number = numbered(output, 0, b"refused ", published);
-    let after_place = numbered(output, after_number, b" at ", place);
-    word(output, after_place, b"\n")
+    refused_line(output, size(card::refusal_number(refusal)), place)
 }
 
-pub(crate) fn card_line(output: &mut [u8], card: u8, k: usize, n: usize, m: usize) -> usize
-    requires { ⌜ (k ≤ 4) × (n ≤ 8) × (m ≤ 31) × (22 ≤ length (now output)) ⌝ }
-    ensures { λ r. ⌜ Wrote (now (output .entry)) 0 (cardLine card k n m) (now (output .exit)) r ⌝ }
+// A size of a card, after its letter.
+fn lettered(output: &mut [u8], at: usize, letter: u8, n: usize) -> usize
+    requires { ⌜ at + length (lettered letter n) ≤ length (now output) ⌝ }
+    ensures { λ r. ⌜ Wrote (now (output .entry)) at (lettered letter n) (now (output .exit)) r ⌝ }
 {
-    let after_card = numbered(output, 0, b"card ", size(card));
-    let after_k = numbered(output, after_card, b" k ", k);
-    let after_n = numbered(output, after_k, b" n ", n);
-    let after_m = numbered(output, after_n, b" m ", m);
-    word(output, after_m, b"\n")
+    numbered(output, at, &[b' ', letter, b' '], n)
 }
 
-pub(crate) fn end_line(output: &mut [u8], at: usize, count: usize) -> usize
-    requires { ⌜ (count < 100000) × (at + 10 ≤ length (now output)) ⌝ }
+// The sizes of a card.
+fn sizes(output: &mut [u8], at: usize, k: usize, n: usize, m: usize) -> usize
+    requires { ⌜ at + (9 + (length (decimal k) + length (decimal n) + length (decimal m))) ≤ length (now output) ⌝ }
+    ensures { λ r. ⌜ Wrote (now (output .entry)) at (sizes k n m) (now (output .exit)) r ⌝ }
+{
+    let after_k = lettered(output, at, b'k', k);
+    let after_n = lettered(output, after_k, b'n', n);
+    lettered(output, after_n, b'm', m)
+}
+
+pub(crate) fn card_line(output: &mut [u8], number: usize, k: usize, n: usize, m: usize) -> usize
+    requires { ⌜ 15 + (length (decimal number) + (length (decimal k) + length (decimal n) + length (decimal m))) ≤ length (now output) ⌝ }
+    ensures { λ r. ⌜ Wrote (now (output .entry)) 0 (cardLine number k n m) (now (output .exit)) r ⌝ }
+{
+    let after_number = numbered(output, 0, b"card ", number);
+    let after_sizes = sizes(output, after_number, k, n, m);
+    byte(output, after_sizes, b'\n')
+}
+
+fn end_line(output: &mut [u8], at: usize, count: usize) -> usize
+    requires { ⌜ at + (5 + length (decimal count)) ≤ length (now output) ⌝ }
     ensures { λ r. ⌜ Wrote (now (output .entry)) at (endLine count) (now (output .exit)) r ⌝ }
 {
     let after_count = numbered(output, at, b"end ", count);
-    word(output, after_count, b"\n")
+    byte(output, after_count, b'\n')
 }
 
 // The digit of stream i of a frame.
@@ -84,16 +107,16 @@ fn stream_digits(output: &mut [u8], at: usize, k: usize, frame: u8) -> usize
 }
 
 fn frame_line(output: &mut [u8], at: usize, k: usize, time: usize, frame: u8) -> usize
-    requires { ⌜ (k ≤ 4) × (time < 100000) × (at + 14 ≤ length (now output)) ⌝ }
+    requires { ⌜ at + (length (decimal time) + 2 * k + 1) ≤ length (now output) ⌝ }
     ensures { λ r. ⌜ Wrote (now (output .entry)) at (frameLine k time frame) (now (output .exit)) r ⌝ }
 {
     let after_time = number(output, at, time);
     let after_digits = stream_digits(output, after_time, k, frame);
-    word(output, after_digits, b"\n")
+    byte(output, after_digits, b'\n')
 }
 
 // A line per frame, the times from 0 on.
-pub(crate) fn frame_lines(output: &mut [u8], at: usize, k: usize, frames: &[u8]) -> usize
+fn frame_lines(output: &mut [u8], at: usize, k: usize, frames: &[u8]) -> usize
     requires { ⌜ (k ≤ 4) × (length (now frames) ≤ 32768) × (at + 14 * length (now frames) ≤ length (now output)) ⌝ }
     ensures { λ r. ⌜ Wrote (now (output .entry)) at (frameLines k 0 (now (frames .entry))) (now (output .exit)) r ⌝ }
 {
@@ -104,4 +127,13 @@ pub(crate) fn frame_lines(output: &mut [u8], at: usize, k: usize, frames: &[u8])
         time += 1;
     }
     end
+}
+
+// The lines of the frames, and the count of these lines.
+pub(crate) fn counted_lines(output: &mut [u8], at: usize, k: usize, frames: &[u8]) -> usize
+    requires { ⌜ (k ≤ 4) × (length (now frames) ≤ 32768) × (at + 14 * length (now frames) + 10 ≤ length (now output)) ⌝ }
+    ensures { λ r. ⌜ Wrote (now (output .entry)) at (frameLines k 0 (now (frames .entry)) ++ endLine (length (now (frames .entry)))) (now (output .exit)) r ⌝ }
+{
+    let after_frames = frame_lines(output, at, k, frames);
+    end_line(output, after_frames, frames.len())
 }

@@ -6,7 +6,7 @@ ghost use lib.ListN.{length};
 ghost use Rattle.outcomes.specs.Text.{glyph, decimal};
 ghost use Rattle.outcomes.specs.Wrote.{Wrote};
 
-fn byte(output: &mut [u8], at: usize, value: u8) -> usize
+pub(crate) fn byte(output: &mut [u8], at: usize, value: u8) -> usize
     requires { ⌜ at < length (now output) ⌝ }
     ensures { λ r. ⌜ Wrote (now (output .entry)) at (value ∷ []) (now (output .exit)) r ⌝ }
 {

@@ -85,59 +85,34 @@ struct Sessions {
     selected: u8, // the receiving session that gets the frames: 0 the first, 1 the second
 }
 
-fn received_by_first(s: Sessions, received: decoder::Received) -> Sessions {
+fn received_by_first(mut s: Sessions, received: decoder::Received) -> Sessions {
     let answer = received.answer;
     lines::received(answer);
-    let first = received.session;
-    let second = s.second;
-    let sender = s.sender;
-    Sessions {
-        first,
-        second,
-        sender,
-        selected: s.selected,
-    }
+    let session = received.session;
+    s.first = session;
+    s
 }
 
-fn received_by_second(s: Sessions, received: digit_decoder::Received) -> Sessions {
+fn received_by_second(mut s: Sessions, received: digit_decoder::Received) -> Sessions {
     let answer = received.answer;
     lines::received(answer);
-    let first = s.first;
-    let second = received.session;
-    let sender = s.sender;
-    Sessions {
-        first,
-        second,
-        sender,
-        selected: s.selected,
-    }
+    let session = received.session;
+    s.second = session;
+    s
 }
 
-fn sent(s: Sessions, sent: encoder::Sent) -> Sessions {
+fn sent(mut s: Sessions, sent: encoder::Sent) -> Sessions {
     let answer = sent.answer;
     lines::sent(answer);
-    let first = s.first;
-    let second = s.second;
-    let sender = sent.session;
-    Sessions {
-        first,
-        second,
-        sender,
-        selected: s.selected,
-    }
+    let session = sent.session;
+    s.sender = session;
+    s
 }
 
-fn selects(s: Sessions, selected: u8) -> Sessions {
+fn selects(mut s: Sessions, selected: u8) -> Sessions {
     lines::session(selected);
-    let first = s.first;
-    let second = s.second;
-    let sender = s.sender;
-    Sessions {
-        first,
-        second,
-        sender,
-        selected,
-    }
+    s.selected = selected;
+    s
 }
 
 fn receives_byte(s: Sessions, number: u8, frame: u8) -> Sessions {

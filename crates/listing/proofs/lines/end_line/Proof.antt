@@ -1,6 +1,4 @@
-use native.Mathlib.Omega.{arith}
 use Rattle.outcomes.specs.Text.{text}
-use Rattle.listing.proofs.Decimal.{decimal-length}
 use Rattle.listing.proofs.LineParts.{end-line}
 use Rattle.outcomes.proofs.Writing.{wrote-as, wrote-both}
 use borrow.Author.Needs.{needs}
@@ -11,34 +9,19 @@ slice-aggregate-numbered : tie.Need-slice-aggregate-numbered
 slice-aggregate-numbered c = search needs
 
 numbered-requires : tie.Need-numbered-requires
-numbered-requires c κs =
-    let start = c .before .before .before in
-    omega (arith, decimal-length 4 (start .args .count) (start .pre .0))
+numbered-requires c κs = search needs
 
-slice-aggregate-word : tie.Need-slice-aggregate-word
-slice-aggregate-word c = search needs
-
-word-requires : tie.Need-word-requires
-word-requires c κs =
-    let start = c .before .before .before .before .before .before .before .before in
-    let numbered = c .before .before .before .before .numbered in
-    omega (arith, decimal-length 4 (start .args .count) (start .pre .0), numbered .ensures .end-is, numbered .kept .0, start .pre .1)
+byte-requires : tie.Need-byte-requires
+byte-requires c κs = search needs
 
 same-length : tie.Need-same-length
 same-length c = search needs
 
 returns : tie.Need-returns
 unfolding text
-returns c =
-    wrote-as (end-line (c .before .before .before .before .before .before .before .before .before .before .before .args .count)) (wrote-both _ _ (c .before .before .before .before .before .before .before .numbered .ensures) (c .before .before .word .ensures))
+returns c = wrote-as (end-line _) (wrote-both _ _ (c .before .before .before .before .before .before .numbered .ensures) (c .before .before .byte .ensures))
 
 pub end-line-spec : {M : Type 1} → statement M
 end-line-spec =
     tie.close
-    (tie.spec
-    slice-aggregate-numbered
-    numbered-requires
-    slice-aggregate-word
-    word-requires
-    same-length
-    returns)
+    (tie.spec slice-aggregate-numbered numbered-requires byte-requires same-length returns)

@@ -2,11 +2,11 @@
 use Prim.Native.Nat.{_-_, _≤_}
 use mathlib.Core.Path.{_≡_, ap}
 use native.Mathlib.Omega.{arith}
-use lib.ListN.{length, take}
+use lib.ListN.{length, getD, take}
 use lib.Seq.{take-all, length-take-le}
 use Rattle.outcomes.specs.Listing.{frameLines}
 use Rattle.outcomes.specs.Wrote.{Wrote}
-use Rattle.listing.proofs.LineParts.{frames-next, lines-length}
+use Rattle.listing.proofs.LineParts.{frames-next, frame-parts, frame-length, lines-length}
 use Rattle.outcomes.proofs.Writing.{wrote-nothing, wrote-as, wrote-both, wrote-length}
 use Rattle.listing.proofs.lines.frame_lines.Statement.{statement}
 use Rattle.listing.proofs.lines.frame_lines.Tie as tie
@@ -29,11 +29,20 @@ frame-line-requires c κs =
     let l = c .before .before .before .loop in
     let start = c .before .before .before .before .before .before in
     let a = start .args in
+    let frames = a .frames .now in
     let h = c .before .before .loop-test .taken in
-    let e : length (take (l .time) (a .frames .now)) ≡ l .time = length-take-le (l .time) (a .frames .now) (l .inv .0) in (
-      start .pre .0,
-      omega (arith, start .pre .1, h),
-      omega (arith, start .pre .2, h, e, l .inv .1 .end-is, wrote-length (l .inv .1), lines-length (a .k) 0 (take (l .time) (a .frames .now)) (start .pre .0) (omega (arith, start .pre .1, h, e))),
+    let e : length (take (l .time) frames) ≡ l .time = length-take-le (l .time) frames (l .inv .0) in
+    let next = getD frames (l .time) 0 in
+    omega (
+      arith,
+      start .pre .2,
+      h,
+      e,
+      l .inv .1 .end-is,
+      wrote-length (l .inv .1),
+      lines-length (a .k) 0 (take (l .time) frames) (start .pre .0) (omega (arith, start .pre .1, h, e)),
+      frame-parts (a .k) (l .time) next,
+      frame-length (a .k) (l .time) next (start .pre .0) (omega (arith, start .pre .1, h)),
     )
 
 add-time : tie.Need-add-time Inv-loop μ-loop
