@@ -21,6 +21,13 @@ pub bit-lt : (x a : ℕ) → bit x a < 2
 unfolding bit
 bit-lt x a = omega arith
 
+-- a digit with nothing added, and added to nothing
+pub add-none : {x y d : ℕ} → x ≡ d → y ≡ 0 → d < 2 → (x + y) % 2 ≡ d
+add-none e z l = omega arith
+
+pub none-add : {x y d : ℕ} → x ≡ 0 → y ≡ d → d < 2 → (x + y) % 2 ≡ d
+none-add z e l = omega arith
+
 pub bit-zero : (x : ℕ) → bit x 0 ≡ x % 2
 unfolding bit
 bit-zero x = omega arith

@@ -1,6 +1,6 @@
 -- A register that holds the digits d of times u to n - 1, that of time u + a at place a: a digit more put in, and the register moved on.
-use Prim.Native.Nat.{ℕ, suc, _+_, _*_, _/_, _%_, _^_, _≤_, _<_}
-use mathlib.Core.Path.{_≡_, sym, ap, _∙_}
+use Prim.Native.Nat.{ℕ, suc, _+_, _*_, _/_, _^_, _≤_, _<_}
+use mathlib.Core.Path.{_≡_, refl, sym, ap, _∙_}
 use mathlib.Core.Logic.{⊎-elim}
 use mathlib.Core.Bool.{cond}
 use native.Mathlib.Nat.{eq-or-lt-of-le}
@@ -10,7 +10,7 @@ use lib.Dec.{ltb}
 use borrow.Author.Tests.{lt-ltb, le-ltb}
 use Rattle.bits.specs.Digits.{bit, shiftUp}
 use Rattle.bits.proofs.Cases.{le-or-lt}
-use Rattle.bits.proofs.Digits.{bit-lt, bit-suc, bit-xor, place-same, place-other}
+use Rattle.bits.proofs.Digits.{bit-lt, add-none, none-add, bit-suc, bit-xor, place-same, place-other}
 use Rattle.bits.proofs.Words.{shift-digit}
 
 unfoldable pub held : (ℕ → ℕ) → ℕ → ℕ → ℕ → ℕ
@@ -36,19 +36,13 @@ module _ (d : ℕ → ℕ) (u t y : ℕ) (Y : (a : ℕ) → bit y a ≡ held d u
       ⊎-elim
       (λ (q : u + a ≡ t).
       let p : a ≡ place = omega arith in
-      last (Y a ∙ held-out d u t a (omega arith)) (ap (bit (v * 2 ^ place)) p ∙ place-same v place hv) ∙ e ∙ ap d (sym q))
-      (λ (q : u + a < t). kept (place-other v place a hv (λ p. absurd (omega arith))) ∙ Y a ∙ held-in d u t a q)
+      none-add (Y a ∙ held-out d u t a (omega arith)) (ap (bit (v * 2 ^ place)) p ∙ place-same v place hv) hv ∙ e ∙ ap d (sym q))
+      (λ (q : u + a < t). add-none refl (place-other v place a hv (λ p. absurd (omega arith))) (bit-lt y a) ∙ Y a ∙ held-in d u t a q)
       (eq-or-lt-of-le w)
       ∙ sym (held-in d u (suc t) a (omega arith)))
       (λ (w : t < u + a).
-      kept (place-other v place a hv (λ p. absurd (omega arith))) ∙ Y a ∙ held-out d u t a (omega arith) ∙ sym (held-out d u (suc t) a (omega arith)))
+      add-none refl (place-other v place a hv (λ p. absurd (omega arith))) (bit-lt y a) ∙ Y a ∙ held-out d u t a (omega arith) ∙ sym (held-out d u (suc t) a (omega arith)))
       (le-or-lt (u + a) t)
-    where
-      last : {x : ℕ} → bit y a ≡ 0 → x ≡ v → (bit y a + x) % 2 ≡ v
-      last z q = omega arith
-
-      kept : {x : ℕ} → x ≡ 0 → (bit y a + x) % 2 ≡ bit y a
-      kept z = omega (arith, bit-lt y a)
 
   -- every digit a place further, that of time u gone
   pub moved : (a : ℕ) → bit (y / 2) a ≡ held d (suc u) t a

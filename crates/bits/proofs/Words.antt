@@ -5,7 +5,7 @@ use mathlib.Core.Path.{_≡_, refl, sym, ap, _∙_}
 use mathlib.Core.Bool.{Bool, true, false, _||_, or-false, or-assoc}
 use mathlib.Core.Logic.{⊎-elim}
 use mathlib.Core.List.{List}
-use native.Mathlib.Nat.{eq-or-lt-of-le, le-div-iff-mul-le, div-eq-of-lt, lt-of-lt-of-le, mul-assoc, mul-mod-left, mul-div-cancel, sub-add-cancel}
+use native.Mathlib.Nat.{eq-or-lt-of-le, le-div-iff-mul-le, div-eq-of-lt, lt-of-lt-of-le, mul-assoc, mul-le-mul-left, mul-mod-left, mul-div-cancel, sub-add-cancel}
 use native.Mathlib.Numerals.{add-one}
 use native.Mathlib.Omega.{arith}
 use lib.Dec.{leb, ltb}
@@ -106,11 +106,15 @@ xor-cut (suc n) w f h z =
     (λ l. let k : w ≤ n = omega arith in ap (bitXor (xorBelow n f)) (z n k) ∙ xor-zero-r (xorBelow n f) ∙ xor-cut n w f k z)
     (eq-or-lt-of-le h)
 
--- a mask taken or not stays a word
-pub mask-times-lt : (g d : ℕ) → g < 2 ^ 32 → d < 2 → g * d < 2 ^ 32
-mask-times-lt g zero h l = omega arith
-mask-times-lt g (suc zero) h l = omega arith
-mask-times-lt g (suc (suc d)) h l = absurd (omega arith)
+-- a mask taken or not has no digit more
+pub mask-times-lt : (w g d : ℕ) → g < 2 ^ w → d < 2 → g * d < 2 ^ w
+mask-times-lt w g d h l = let m : g * d ≤ g * 1 = mul-le-mul-left g (omega arith) in omega arith
+
+-- and neither have several, added up
+pub masks-lt : (w n : ℕ) (g d : ℕ → ℕ) → ((i : ℕ) → g i < 2 ^ w) → ((i : ℕ) → d i < 2) → xorBelow n (λ i. g i * d i) < 2 ^ w
+unfolding xorBelow
+masks-lt w zero g d hg hd = pow-pos w
+masks-lt w (suc n) g d hg hd = xor-lt w _ _ (masks-lt w n g d hg hd) (mask-times-lt w (g n) (d n) (hg n) (hd n))
 
 -- words of which the union has no 1 have none
 pub none-more : (f : ℕ → ℕ) (j all : ℕ) {x : ℕ} → x ≡ f j → (all ≡ 0 → (b : ℕ) → b < j → f b ≡ 0) → bitOr all x ≡ 0 → (b : ℕ) → b < j + 1 → f b ≡ 0

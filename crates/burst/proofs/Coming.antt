@@ -10,21 +10,18 @@ use Rattle.bits.specs.Sums.{sumBelow, back}
 use Rattle.bits.specs.Digits.{bit}
 use Rattle.bits.proofs.Sums.{sum-same, sum-cong, sum-add, sum-none, sum-first, sum-cut}
 use Rattle.bits.proofs.Back.{back-in, back-out, back-suc}
-use Rattle.bits.proofs.Digits.{bit-lt, bit-zero, bit-suc, bit-mod, bit-high, bit-xor, bit-masks}
+use Rattle.bits.proofs.Digits.{bit-zero, bit-suc, bit-mod, bit-xor}
 use Rattle.code.specs.Code.{generator, digit, parityAt}
 use Rattle.code.specs.Guarantees.{Guarantees}
+use Rattle.code.specs.Registers.{generatorSum}
 use Rattle.code.specs.declared.Card.{Card}
-use Rattle.burst.specs.Registers.{generatorSum}
+use Rattle.code.proofs.Registers.{generator-beyond}
+use Rattle.code.proofs.GeneratorSums.{sum-bit}
 use Rattle.burst.specs.Held.{comingAt}
 
 -- the part of parity digit j at t + a that the information digits up to time t give
 unfoldable pub comingWith : Card → List ℕ → ℕ → ℕ → ℕ → ℕ
 comingWith c frames t j a = sumBelow (c .k) (λ i. sumBelow (suc (c .m)) (λ b. generator c i j (a + b) * back (digit frames i) t b)) % 2
-
--- a generator has no term beyond m
-pub generator-beyond : (c : Card) → Guarantees c → (i j a : ℕ) → c .m < a → generator c i j a ≡ 0
-unfolding generator
-generator-beyond c G i j a l = bit-high _ (c .m + 1) a (G .generators-within (i * 8 + j)) (omega arith)
 
 pub coming-start : (c : Card) (frames : List ℕ) (j a : ℕ) → comingAt c frames 0 j a ≡ 0
 unfolding comingAt
@@ -69,13 +66,8 @@ unfolding comingWith comingAt
 coming-later c frames t j a =
     ap (λ x. x % 2) (sum-cong (c .k) (λ i. sum-cong (suc (c .m)) (λ b. ap (λ n. generator c i j (suc a + b) * n) (sym (back-suc (digit frames i) t b)))))
 
--- the digits of a sum of generators
-pub sum-bit : (c : Card) (x j a : ℕ) → bit (generatorSum (c .generators) (c .k) x j) a ≡ sumBelow (c .k) (λ i. generator c i j a * bit x i) % 2
-unfolding generatorSum generator
-sum-bit c x j a = bit-masks (c .k) (λ i. getD (c .generators) (i * 8 + j) 0) (bit x) (bit-lt x) a
-
 -- ---- a register of the parity to come on stream j, before the frame f of time t, and the sum of the generators of f
-module _ (c : Card) (G : Guarantees c) (frames : List ℕ) (t f j register sum : ℕ) (hf : f ≡ getD frames t 0)
+module _ (c : Card) (G : Guarantees c) (frames : List ℕ) (t f j : ℕ) (hj : j < c .p) (register sum : ℕ) (hf : f ≡ getD frames t 0)
     (hs : sum ≡ generatorSum (c .generators) (c .k) (f % 2 ^ c .k) j) (B : (a : ℕ) → bit register a ≡ comingAt c frames t j a) where
   -- the register with the frame
   pub register-with : (a : ℕ) → bit (bitXor register sum) a ≡ comingWith c frames t j a
@@ -84,7 +76,7 @@ module _ (c : Card) (G : Guarantees c) (frames : List ℕ) (t f j register sum :
       bit-xor register sum a
       ∙ ap₂ (λ x y. (x + y) % 2) (B a)
       (ap (λ y. bit y a) hs
-      ∙ sum-bit c (f % 2 ^ c .k) j a
+      ∙ sum-bit c G (f % 2 ^ c .k) j a hj
       ∙ ap (λ y. y % 2)
       (sum-same (c .k) _ (λ i. generator c i j a * digit frames i t) (λ i li. ap (λ y. generator c i j a * y) (bit-mod f (c .k) i li ∙ ap (λ y. bit y i) hf))))
       ∙ add-mod-mod _ _ 2

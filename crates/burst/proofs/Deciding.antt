@@ -21,6 +21,7 @@ use Rattle.bits.proofs.Digits.{bit-lt, bit-mod, bit-xor, bit-of-zero, from-digi
 use Rattle.code.specs.Code.{generator, digit}
 use Rattle.code.specs.Guarantees.{Guarantees}
 use Rattle.code.specs.declared.Card.{Card}
+use Rattle.code.proofs.GeneratorSums.{sum-beyond}
 use Rattle.majority.specs.Rule.{cleared, corrected}
 use Rattle.majority.specs.Rule as Rule
 use Rattle.majority.specs.Plain.{decideFrame, decided}
@@ -30,7 +31,6 @@ use Rattle.majority.proofs.Plain.{decided-length, decided-at}
 use Rattle.majority.proofs.Feedback.{cleared-fed}
 use Rattle.burst.specs.Registers.{Registers, registers, HasSums, takenOut, Corrected, correctedBy}
 use Rattle.burst.specs.Held.{syndromeHeld, Before, With}
-use Rattle.burst.proofs.Coming.{generator-beyond}
 use Rattle.burst.proofs.Following.{sums-bit}
 
 -- four streams at most are decided
@@ -74,7 +74,7 @@ module _ (c : Card) (G : Guarantees c) (frames : List ℕ) (t : ℕ) (r : Regist
         ap (λ l. bit (getD l j 0) a) w
         ∙ ap (λ x. bit x a) (part-at (takenOut sums (r .syndromes) errors) (r .syndromes) (c .p) j hj)
         ∙ bit-xor (getD (r .syndromes) j 0) (getD sums (errors * 8 + j) 0) a
-        ∙ ap (λ x. (bit (getD (r .syndromes) j 0) a + x) % 2) (sums-bit c sums S errors j a errors-lt hj)
+        ∙ ap (λ x. (bit (getD (r .syndromes) j 0) a + x) % 2) (sums-bit c G sums S errors j a errors-lt hj)
         ∙ add-mod-mod (bit (getD (r .syndromes) j 0) a) _ 2)
         (C .after-is)
 
@@ -115,13 +115,7 @@ module _ (c : Card) (G : Guarantees c) (frames : List ℕ) (t : ℕ) (r : Regist
         }
       where
         none : (j a : ℕ) {x : ℕ} → c .m ≤ a → x ≡ 0 → (x + sumBelow (c .k) (λ i. generator c i j (suc a) * bit errors i)) % 2 ≡ 0
-        none j a l e =
-            omega (
-              arith,
-              e,
-              sum-none (c .k) (λ i. generator c i j (suc a) * bit errors i)
-                  (λ i li. ap (λ x. x * bit errors i) (generator-beyond c G i j (suc a) (omega arith)) ∙ omega arith),
-            )
+        none j a l e = omega (arith, e, sum-beyond c G errors j (suc a) (omega arith))
 
     -- the frame handed out, whatever is decided later
     pub handed-out : (n : ℕ) → t - c .m < n

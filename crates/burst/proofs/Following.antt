@@ -16,23 +16,24 @@ use Rattle.bits.specs.Digits.{bit, shiftUp}
 use Rattle.bits.proofs.Lists.{part-at}
 use Rattle.bits.proofs.Back.{back-in, back-out}
 use Rattle.bits.proofs.Cases.{le-or-lt}
-use Rattle.bits.proofs.Digits.{bit-zero, bit-suc, bit-shift, bit-xor, place-same, place-other}
+use Rattle.bits.proofs.Digits.{add-none, none-add, bit-zero, bit-suc, bit-shift, bit-xor, place-same, place-other}
 use Rattle.bits.proofs.Words.{shift-digit}
 use Rattle.code.specs.Code.{generator, digit, parityAt}
 use Rattle.code.specs.Guarantees.{Guarantees}
 use Rattle.code.specs.declared.Card.{Card}
+use Rattle.code.proofs.GeneratorSums.{sum-bit}
 use Rattle.majority.specs.Rule.{syndrome, cleared}
 use Rattle.majority.specs.Plain.{decided}
 use Rattle.majority.proofs.Plain.{decided-length}
 use Rattle.majority.proofs.Feedback.{syndrome-lt, cleared-lt, cleared-new}
 use Rattle.burst.specs.Registers.{Registers, HasSums, parityWith, comingNext, syndromesNext, TakenIn}
 use Rattle.burst.specs.Held.{comingAt, syndromeHeld, Before, With}
-use Rattle.burst.proofs.Coming.{comingWith, coming-now, sum-bit, register-with, register-next}
+use Rattle.burst.proofs.Coming.{comingWith, coming-now, register-with, register-next}
 
 -- the digits of the table of generator sums
-pub sums-bit : (c : Card) (sums : List ℕ) → HasSums (c .generators) (c .k) (c .p) (2 ^ c .k) sums → (x j a : ℕ) → x < 2 ^ c .k → j < c .p
+pub sums-bit : (c : Card) → Guarantees c → (sums : List ℕ) → HasSums (c .generators) (c .k) (c .p) (2 ^ c .k) sums → (x j a : ℕ) → x < 2 ^ c .k → j < c .p
     → bit (getD sums (x * 8 + j) 0) a ≡ sumBelow (c .k) (λ i. generator c i j a * bit x i) % 2
-sums-bit c sums S x j a hx hj = ap (λ y. bit y a) (S x j hx hj) ∙ sum-bit c x j a
+sums-bit c G sums S x j a hx hj = ap (λ y. bit y a) (S x j hx hj) ∙ sum-bit c G x j a hj
 
 pub held-lt : (c : Card) (frames : List ℕ) (t j a : ℕ) → syndromeHeld c frames t j a < 2
 unfolding syndromeHeld
@@ -51,24 +52,18 @@ held-now c frames t j a e =
     ∙ ap (λ v. cleared c frames errors v j) z
     ∙ cleared-new c frames errors t j (omega (arith, decided-length c frames (t - c .m)))
 
-only-first : {x y v : ℕ} → x ≡ v → y ≡ 0 → v < 2 → (x + y) % 2 ≡ v
-only-first e q h = omega arith
-
-only-second : {x y v : ℕ} → x ≡ 0 → y ≡ v → v < 2 → (x + y) % 2 ≡ v
-only-second e q h = omega arith
-
 module _ (c : Card) (G : Guarantees c) (sums : List ℕ) (S : HasSums (c .generators) (c .k) (c .p) (2 ^ c .k) sums)
     (frames : List ℕ) (t f : ℕ) (hf : f ≡ getD frames t 0) (r : Registers) (B : Before c frames t r) where
   -- the parity register j with the frame
   parity-bit : (j a : ℕ) → j < c .p → bit (parityWith sums (r .coming) (c .k) f j) a ≡ comingWith c frames t j a
   unfolding parityWith
   parity-bit j a hj =
-      register-with c G frames t f j (getD (r .coming) j 0) _ hf (S (f % 2 ^ c .k) j (mod-lt f (pow-pos (c .k))) hj) (λ b. B .coming-at j b hj) a
+      register-with c G frames t f j hj (getD (r .coming) j 0) _ hf (S (f % 2 ^ c .k) j (mod-lt f (pow-pos (c .k))) hj) (λ b. B .coming-at j b hj) a
 
   coming-bit : (j a : ℕ) → j < c .p → bit (comingNext sums (r .coming) (c .k) f j) a ≡ comingAt c frames (suc t) j a
   unfolding comingNext parityWith
   coming-bit j a hj =
-      register-next c G frames t f j (getD (r .coming) j 0) _ hf (S (f % 2 ^ c .k) j (mod-lt f (pow-pos (c .k))) hj) (λ b. B .coming-at j b hj) a
+      register-next c G frames t f j hj (getD (r .coming) j 0) _ hf (S (f % 2 ^ c .k) j (mod-lt f (pow-pos (c .k))) hj) (λ b. B .coming-at j b hj) a
 
   -- the syndrome of the frame
   syndrome-is : (j : ℕ) → j < c .p
@@ -97,15 +92,15 @@ module _ (c : Card) (G : Guarantees c) (sums : List ℕ) (S : HasSums (c .genera
       (λ (l : a ≤ c .m).
       ⊎-elim
       (λ (e : a ≡ c .m).
-      only-second (ap (λ b. cond b (syndromeHeld c frames t j a) 0) (le-ltb a (c .m) (omega arith))) (ap (bit (d * 2 ^ c .m)) e ∙ place-same d (c .m) hd) hd
+      none-add (ap (λ b. cond b (syndromeHeld c frames t j a) 0) (le-ltb a (c .m) (omega arith))) (ap (bit (d * 2 ^ c .m)) e ∙ place-same d (c .m) hd) hd
       ∙ sym (held-now c frames t j a e)
       ∙ sym (ap (λ b. cond b (syndromeHeld c frames t j a) 0) (le-leb a (c .m) l)))
       (λ (q : a < c .m).
-      only-first (ap (λ b. cond b (syndromeHeld c frames t j a) 0) (lt-ltb a (c .m) q)) (place-other d (c .m) a hd (λ e. absurd (omega arith))) (held-lt c frames t j a)
+      add-none (ap (λ b. cond b (syndromeHeld c frames t j a) 0) (lt-ltb a (c .m) q)) (place-other d (c .m) a hd (λ e. absurd (omega arith))) (held-lt c frames t j a)
       ∙ sym (ap (λ b. cond b (syndromeHeld c frames t j a) 0) (le-leb a (c .m) l)))
       (eq-or-lt-of-le l))
       (λ (l : c .m < a).
-      only-first (ap (λ b. cond b (syndromeHeld c frames t j a) 0) (le-ltb a (c .m) (omega arith))) (place-other d (c .m) a hd (λ e. absurd (omega arith))) (omega arith)
+      add-none (ap (λ b. cond b (syndromeHeld c frames t j a) 0) (le-ltb a (c .m) (omega arith))) (place-other d (c .m) a hd (λ e. absurd (omega arith))) (omega arith)
       ∙ sym (ap (λ b. cond b (syndromeHeld c frames t j a) 0) (lt-leb a (c .m) l)))
       (le-or-lt a (c .m))
 

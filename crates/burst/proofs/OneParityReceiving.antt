@@ -5,23 +5,24 @@ use mathlib.Core.Path.{_≡_, refl, sym, ap, ap₂, _∙_, subst}
 use mathlib.Core.Bool.{Bool, true, false, _||_, true≢false}
 use mathlib.Core.Logic.{_⊎_, inl, inr}
 use mathlib.Core.List.{List, [], _∷_, _++_}
-use native.Mathlib.Nat.{lt-of-lt-of-le, zero-div, zero-mod, mul-le-mul-left, mod-lt, mod-eq-of-lt, div-eq-of-lt, zero-lt-suc, add-zero, add-comm, add-assoc, add-mul, mul-assoc, pow-succ', div-add-mod', div-one}
+use native.Mathlib.Nat.{lt-of-lt-of-le, zero-div, zero-mod, mod-lt, mod-eq-of-lt, div-eq-of-lt, zero-lt-suc, add-zero, add-comm, add-assoc, add-mul, mul-assoc, pow-succ', div-add-mod', div-one}
 use native.Mathlib.Numerals.{add-one}
 use native.Mathlib.Omega.{arith}
 use lib.ListN.{length, getD, set, drop, replicate}
-use lib.Bits.{bitXor, xor-lt, block-half, xor-comm, xor-zero-r, xor-shifted, xor-block, xor-shr, xor-mod}
+use lib.Bits.{bitXor, block-half, xor-comm, xor-zero-r, xor-shifted, xor-block, xor-shr, xor-mod}
 use lib.Count.{ones}
 use lib.Dec.{leb, ltb}
 use borrow.Author.Tests.{leb-false}
 use lib.Pow.{pow-pos, pow-mono, shl-shr, split, high, low, shl-exact}
-use Rattle.bits.specs.Sums.{sumBelow, xorBelow, upTo}
-use Rattle.bits.specs.Digits.{bit, shiftUp, anyBeyond}
+use Rattle.bits.specs.Sums.{sumBelow, upTo}
+use Rattle.bits.specs.Digits.{shiftUp, anyBeyond}
 use Rattle.bits.proofs.Cases.{cond-le}
-use Rattle.bits.proofs.Digits.{bit-lt, bit-zero, bit-xor, digits-lt, from-digits-lt, ones-sum}
+use Rattle.bits.proofs.Digits.{bit-zero, bit-xor, digits-lt, from-digits-lt, ones-sum}
 use Rattle.bits.proofs.Words.{shift-digit}
 use Rattle.code.specs.Checks.{count}
 use Rattle.code.specs.Guarantees.{Guarantees}
 use Rattle.code.specs.declared.Card.{Card}
+use Rattle.code.proofs.GeneratorSums.{sum-within}
 use Rattle.majority.specs.Plain.{decoded}
 use Rattle.vote.specs.Voting.{decideBy}
 use Rattle.ballot.specs.Ballot.{votesSorted, decideSorted}
@@ -30,7 +31,7 @@ use Rattle.ballot.proofs.FewOnes.{decide-few}
 use Rattle.burst.specs.Parts.{cardFrom, EveryCard}
 use Rattle.burst.specs.Held.{tables, Handing, AllHandedOut}
 use Rattle.burst.proofs.HandingOut.{hand-turn}
-use Rattle.burst.specs.Registers.{registers, generatorSum, HasSums, parityWith, comingNext, syndromesNext, TakenIn, takenOut, Corrected, correctedBy, AtLeast, AllWithin, inOne, putOf, HasPuts}
+use Rattle.burst.specs.Registers.{registers, HasSums, parityWith, comingNext, syndromesNext, TakenIn, takenOut, Corrected, correctedBy, AtLeast, AllWithin, inOne, putOf, HasPuts}
 
 -- twice a power of two, shifted up within the word
 pub twice-is : (k w : ℕ) → k + 2 ≤ w → 2 * 2 ^ k % 2 ^ w ≡ 2 ^ (k + 1)
@@ -156,19 +157,9 @@ module _ (sums : List ℕ) (k m f word : ℕ) (hm : m ≤ 31) {next : ℕ} (e : 
       }
 
 -- ---- a sum of generators has no place above m
-times-lt : (w g d : ℕ) → g < 2 ^ w → d < 2 → g * d < 2 ^ w
-times-lt w g d h l = let h' : g * d ≤ g * 1 = mul-le-mul-left g (omega arith) in omega arith
-
-masks-lt : (w n : ℕ) (g d : ℕ → ℕ) → ((i : ℕ) → g i < 2 ^ w) → ((i : ℕ) → d i < 2) → xorBelow n (λ i. g i * d i) < 2 ^ w
-unfolding xorBelow
-masks-lt w zero g d hg hd = pow-pos w
-masks-lt w (suc n) g d hg hd = xor-lt w _ _ (masks-lt w n g d hg hd) (times-lt w (g n) (d n) (hg n) (hd n))
-
-sum-within : (c : Card) → Guarantees c → (sums : List ℕ) → HasSums (c .generators) (c .k) (c .p) (2 ^ c .k) sums → (x : ℕ) → x < 2 ^ c .k
+sums-within : (c : Card) → Guarantees c → (sums : List ℕ) → HasSums (c .generators) (c .k) (c .p) (2 ^ c .k) sums → (x : ℕ) → x < 2 ^ c .k
     → getD sums (x * 8) 0 < 2 ^ (c .m + 1)
-unfolding generatorSum
-sum-within c G sums S x l =
-    rw (sym (add-zero (x * 8)), S x 0 l (G .p-least)) (masks-lt (c .m + 1) (c .k) (λ i. getD (c .generators) (i * 8 + 0) 0) (bit x) (λ i. G .generators-within (i * 8 + 0)) (bit-lt x))
+sums-within c G sums S x l = rw (sym (add-zero (x * 8)), S x 0 l (G .p-least)) (sum-within c G x 0)
 
 -- ---- errors taken out of the word are taken out of its syndromes
 above-same : (word s m : ℕ) → s < 2 ^ (m + 1) → bitXor word s / 2 ^ (m + 1) ≡ word / 2 ^ (m + 1)
@@ -211,7 +202,7 @@ module _ (number : ℕ) (g counts checks : List ℕ) (k m : ℕ) (G : Guarantees
   fed-into puts P {word} {next} {errors} e (inr w) =
       let s = getD sums (errors * 8) 0 in
       let small : errors < 2 ^ k = rw e (decide-lt-k counts checks (inOne m word .syndromes) k 1 (G .k-most)) in
-      let l : s < 2 ^ (m + 1) = sum-within (cardFrom number g counts checks k 1 m) G sums S errors small in
+      let l : s < 2 ^ (m + 1) = sums-within (cardFrom number g counts checks k 1 m) G sums S errors small in
       let w' : next ≡ bitXor word s = w ∙ ap (bitXor word) (errors-out puts P errors small) in (
         ap (λ x. x / 2 ^ (m + 1)) w' ∙ above-same word s m l,
         record {

@@ -8,25 +8,18 @@ use native.Mathlib.Omega.{arith}
 use lib.ListN.{length, getD, drop, set, length-append, length-drop, List·getD-eq-default}
 use lib.Bits.{bitXor, xor-zero-r}
 use borrow.Author.Tests.{lt-ltb, le-ltb}
-use Rattle.bits.specs.Sums.{xorBelow, upTo}
+use Rattle.bits.specs.Sums.{upTo}
 use Rattle.bits.specs.Digits.{bit, fromDigits}
 use Rattle.bits.proofs.Sums.{sum-step}
 use Rattle.bits.proofs.Lists.{zeros-after, upTo-length, part-step}
 use Rattle.bits.proofs.Digits.{bit-of-zero, from-digits-same, from-digits-bits}
-use Rattle.bits.proofs.Words.{xor-cut}
 use Rattle.code.specs.Code.{digit, parityAt, withTail, sentDigit, sentFrame}
 use Rattle.code.specs.Guarantees.{Guarantees}
+use Rattle.code.specs.Registers.{generatorSum}
 use Rattle.code.specs.declared.Card.{Card}
-use Rattle.burst.specs.Registers.{generatorSum}
+use Rattle.code.proofs.GeneratorSums.{sum-of-none}
 use Rattle.burst.specs.Sent.{SentSoFar}
 use Rattle.burst.proofs.Coming.{coming-start, register-parity, register-next}
-
--- no information, no generators
-sum-of-none : (g : List ℕ) (k j : ℕ) → generatorSum g k (0 % 2 ^ k) j ≡ 0
-unfolding generatorSum xorBelow
-sum-of-none g k j =
-    xor-cut k 0 _ (omega arith)
-    (λ i l. ap (λ x. getD g (i * 8 + j) 0 * bit x i) (zero-mod (2 ^ k)) ∙ ap (λ x. getD g (i * 8 + j) 0 * x) (bit-of-zero i) ∙ omega arith)
 
 -- a frame of one parity stream: the information digits, and above them the parity
 frame-is : (c : Card) → c .p ≡ 1 → (frames : List ℕ) (t : ℕ) {f parity : ℕ} → f ≡ getD frames t 0 → parity ≡ parityAt c frames 0 t
@@ -62,9 +55,9 @@ module _ (c : Card) (G : Guarantees c) (one : c .p ≡ 1) (input output₀ : Lis
       let frames = withTail c input in
       let now : f ≡ getD frames t 0 = hf ∙ sym (zeros-after input (c .m) t) in
       record {
-        coming-at = rw add-one (register-next c G frames t f 0 coming sum now hs (S .coming-at));
+        coming-at = rw add-one (register-next c G frames t f 0 (G .p-least) coming sum now hs (S .coming-at));
         output-is = part-step (sentFrame c frames) output₀ t output x (within S l) (S .output-is)
-            (hx ∙ frame-is c one frames t now (register-parity c G frames t f 0 coming sum now hs (S .coming-at)));
+            (hx ∙ frame-is c one frames t now (register-parity c G frames t f 0 (G .p-least) coming sum now hs (S .coming-at)));
       }
 
   -- the tail's: no information, and nothing is added to the parity to come
@@ -74,4 +67,4 @@ module _ (c : Card) (G : Guarantees c) (one : c .p ≡ 1) (input output₀ : Lis
       let none : 0 % 2 ^ c .k ≡ 0 = zero-mod (2 ^ c .k) in
       let same : bitXor coming 0 ≡ coming = xor-zero-r coming in
       rw same at
-      (information-turn {x = x} l (sym (List·getD-eq-default input 0 h)) (sym (sum-of-none (c .generators) (c .k) 0)) (rw (none, same) hx) S)
+      (information-turn {x = x} l (sym (List·getD-eq-default input 0 h)) (sym (ap (λ x. generatorSum (c .generators) (c .k) x 0) none ∙ sum-of-none (c .generators) (c .k) 0)) (rw (none, same) hx) S)

@@ -7,7 +7,8 @@ use lib.ListN.{length, getD, set, length-set}
 use lib.Seq.{getD-set-same, getD-set-other}
 use lib.Pow.{pow-mono, shl-exact}
 use borrow.Author.Count.{below-more}
-use Rattle.burst.specs.Registers.{generatorSum, HasSums, HasStreamSums}
+use Rattle.code.specs.Registers.{generatorSum}
+use Rattle.burst.specs.Registers.{HasSums, HasStreamSums}
 
 -- so many x have k digits: none of this is cut
 pub size-is : (k : ℕ) → k ≤ 4 → 1 * 2 ^ k % 2 ^ 32 ≡ 2 ^ k

@@ -7,8 +7,9 @@ use mathlib.Core.Logic.{_⊎_}
 use mathlib.Core.List.{List, _∷_, _++_}
 use lib.ListN.{length, getD, drop, replicate}
 use lib.Bits.{bitXor}
-use Rattle.bits.specs.Sums.{xorBelow, upTo}
-use Rattle.bits.specs.Digits.{bit, shiftUp}
+use Rattle.bits.specs.Sums.{upTo}
+use Rattle.bits.specs.Digits.{shiftUp}
+use Rattle.code.specs.Registers.{generatorSum}
 use Rattle.vote.specs.Voting.{decideBy}
 
 -- the registers of the parity streams: the parity digits to come, and the syndromes held
@@ -19,11 +20,7 @@ pub record Registers : Type 0 where
 abbrev pub registers : List ℕ → List ℕ → Registers
 registers coming syndromes = record { coming = coming; syndromes = syndromes }
 
--- the exclusive or of the generators, on parity stream j, of those of the k information streams that are in x
-unfoldable pub generatorSum : List ℕ → ℕ → ℕ → ℕ → ℕ
-generatorSum g k x j = xorBelow k (λ i. getD g (i * 8 + j) 0 * bit x i)
-
--- the table has the sums of each x below n on p parity streams, that of x and j at x * 8 + j
+-- the table has the sums of the generators of each x below n on p parity streams, that of x and j at x * 8 + j
 abbrev pub HasSums : List ℕ → ℕ → ℕ → ℕ → List ℕ → Type 0
 HasSums g k p n sums = (x j : ℕ) → x < n → j < p → getD sums (x * 8 + j) 0 ≡ generatorSum g k x j
 

@@ -6,7 +6,7 @@ ghost use Prim.Native.Nat.{ℕ, _+_, _/_, _%_, _^_, _<_, _≤_};
 ghost use lib.ListN.{getD, length};
 ghost use lib.Bits.{bitXor};
 ghost use Rattle.bits.specs.Digits.{shiftUp};
-ghost use Rattle.burst.specs.Registers.{registers, generatorSum, HasSums, HasStreamSums, TakenIn, written, takenOut, Corrected, NoneFrom, correctedBy};
+ghost use Rattle.burst.specs.Registers.{registers, HasSums, HasStreamSums, TakenIn, written, takenOut, Corrected, NoneFrom, correctedBy};
 
 // Streams 1 to k of a frame.
 pub(crate) fn information(frame: u8, k: usize) -> u32
@@ -16,21 +16,7 @@ pub(crate) fn information(frame: u8, k: usize) -> u32
     bits::wide(frame) % (1 << k)
 }
 
-// The exclusive or of the generators, on parity stream j, of the information streams in x.
-fn generator_sum(generators: &[u32; 32], k: usize, x: u32, j: usize) -> u32
-    requires { ⌜ (k ≤ 4) × (j < 8) ⌝ }
-    ensures { λ r. ⌜ r ≡ generatorSum (now (generators .entry)) k x j ⌝ }
-{
-    let mut sum: u32 = 0;
-    let mut i = 0;
-    while i < k {
-        sum = sum ^ bits::word(generators, i * 8 + j) * bits::digit(x, i);
-        i += 1;
-    }
-    sum
-}
-
-// The sums of x on each parity stream, put into the table behind those of every x before it.
+// The sums of the generators of x on each parity stream, put into the table behind those of every x before it.
 fn put_sums(sums: &mut [u32; 128], generators: &[u32; 32], k: usize, p: usize, x: u32)
     requires { ⌜ (k ≤ 4) × (p ≤ 8) × (x < 16) × (length (now sums) ≡ 128) ⌝ }
     requires { ⌜ HasSums (now generators) k p x (now sums) ⌝ }
@@ -40,7 +26,7 @@ fn put_sums(sums: &mut [u32; 128], generators: &[u32; 32], k: usize, p: usize, x
     let at = bits::index(x) * 8;
     let mut j = 0;
     while j < p {
-        sums[at + j] = generator_sum(generators, k, x, j);
+        sums[at + j] = code::generator_sum(generators, k, x, j);
         j += 1;
     }
 }
@@ -62,14 +48,14 @@ pub(crate) fn generator_sums(generators: &[u32; 32], k: usize, p: usize) -> [u32
 
 // The same on parity stream j alone, at x: a small table, since a short burst has to wait for it too.
 pub(crate) fn stream_sums(generators: &[u32; 32], k: usize, j: usize) -> [u32; 16]
-    requires { ⌜ (k ≤ 4) × (j < 8) ⌝ }
+    requires { ⌜ k ≤ 4 ⌝ }
     ensures { λ r. ⌜ HasStreamSums (now (generators .entry)) k j (2 ^ k) r ⌝ }
 {
     let mut sums = [0u32; 16];
     let mut x: u32 = 0;
     while x < 1 << k {
         let at = bits::index(x);
-        sums[at] = generator_sum(generators, k, x, j);
+        sums[at] = code::generator_sum(generators, k, x, j);
         x += 1;
     }
     sums

@@ -9,8 +9,8 @@ use Rattle.bits.specs.Sums.{upTo}
 use Rattle.bits.proofs.Lists.{upTo-length, upTo-at}
 use Rattle.code.specs.Checks.{count, checkMask}
 use Rattle.card.specs.Fields.{Fields, cardOf}
-use Rattle.card.specs.Layout.{MasksIn, AllMasksIn, StreamIn, InRanges}
-use Rattle.card.proofs.Stores.{noStream, stream-in}
+use Rattle.card.specs.Layout.{MasksIn, StreamIn, InRanges}
+use Rattle.card.proofs.Stores.{noStream, masks-in-list, stream-in-list}
 use Rattle.card.proofs.CardTables.{streamOf, generator-stated, count-stated, mask-stated}
 use Rattle.card.specs.Written.{headOf, masksAt, rowsOf, checksOf, streamsOf, kOf, fieldsOf}
 use Rattle.card.specs.Written as written
@@ -41,11 +41,6 @@ masks-back p m vs a g h = ext-getD 0 (upTo p g) vs (upTo-length p g ∙ sym (a .
     at : (j : ℕ) → j < length (upTo p g) → getD (upTo p g) j 0 ≡ getD vs j 0
     at j b = let k : j < p = omega (arith, upTo-length p g) in upTo-at p g j k ∙ h j k
 
-masks-in : (p m : ℕ) (checks : List (List ℕ)) → AllMasksIn p m checks → (q : ℕ) → q < length checks → MasksIn p m (getD checks q [])
-masks-in p m [] a q h = absurd (omega arith)
-masks-in p m (vs ∷ checks) a zero h = a .0
-masks-in p m (vs ∷ checks) a (suc q) h = masks-in p m checks (a .1) q (omega arith)
-
 -- ---- the fields
 
 -- the same fields, with no default stated
@@ -61,13 +56,13 @@ module _ (f : Fields) (w : InRanges f) where
   rows-back =
       listed (λ i. upTo p (λ j. getD (cardOf f .generators) (i * 8 + j) 0)) (f .rows) [] (f .head .k) (w .row-count)
       (λ i h.
-      masks-back p (f .head .m) (getD (f .rows) i []) (masks-in p (f .head .m) (f .rows) (w .rows-in) i (omega (arith, w .row-count)))
+      masks-back p (f .head .m) (getD (f .rows) i []) (masks-in-list p (f .head .m) (f .rows) (w .rows-in) i (omega (arith, w .row-count)))
       (λ j. getD (cardOf f .generators) (i * 8 + j) 0)
       (λ j b. generator-stated f w i j (omega (arith, w .n-most))))
 
   module _ (i : ℕ) (h : i < f .head .k) where
     in-limits : StreamIn p (f .head .m) (streamOf f i)
-    in-limits = stream-in p (f .head .m) (f .streams) (w .streams-in) i (omega (arith, w .stream-count))
+    in-limits = stream-in-list p (f .head .m) (f .streams) (w .streams-in) i (omega (arith, w .stream-count))
 
     count-back : min (getD (cardOf f .counts) i 0) 16 ≡ streamOf f i .count
     unfolding count
@@ -79,7 +74,7 @@ module _ (f : Fields) (w : InRanges f) where
         listed (λ q. upTo p (λ j. getD (cardOf f .checks) (i * 128 + q * 8 + j) 0)) (streamOf f i .checks) [] (streamOf f i .count) (in-limits .many)
         (λ q b.
         masks-back p (f .head .m) (getD (streamOf f i .checks) q [])
-        (masks-in p (f .head .m) (streamOf f i .checks) (in-limits .masks) q (omega (arith, in-limits .many)))
+        (masks-in-list p (f .head .m) (streamOf f i .checks) (in-limits .masks) q (omega (arith, in-limits .many)))
         (λ j. getD (cardOf f .checks) (i * 128 + q * 8 + j) 0)
         (λ j k. mask-stated f w i q j (omega (arith, in-limits .J-most)) (omega (arith, w .n-most))))
 

@@ -9,7 +9,7 @@ use Rattle.code.specs.Checks.{count, checkMask}
 use Rattle.code.specs.Guarantees.{Guarantees}
 use Rattle.card.specs.Fields.{Stream, Fields, cardOf}
 use Rattle.card.specs.Layout.{InRanges, TrulyOrthogonal}
-use Rattle.card.proofs.Stores.{noStream, stream-in}
+use Rattle.card.proofs.Stores.{noStream, stream-in-list}
 use Rattle.card.proofs.CardTables.{mask-within, mask-beyond, streamOf, generator-stated, count-stated, mask-stated, stream-stated}
 
 module _ (f : Fields) (w : InRanges f) where
@@ -62,7 +62,7 @@ module _ (f : Fields) (w : InRanges f) where
   count-least : (i : ℕ) → i < f .head .k → 1 ≤ count (cardOf f) i
   count-least i h =
       let e = w .stream-count in
-      rw (count-stated f w i) (stream-in p (f .head .m) (f .streams) (w .streams-in) i (omega arith) .J-least)
+      rw (count-stated f w i) (stream-in-list p (f .head .m) (f .streams) (w .streams-in) i (omega arith) .J-least)
 
   count-most : (i : ℕ) → count (cardOf f) i ≤ 16
   count-most i = rw (count-stated f w i) (stream-stated f w i .1)

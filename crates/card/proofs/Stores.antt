@@ -5,7 +5,7 @@ use mathlib.Core.List.{List, [], _∷_}
 use native.Mathlib.Omega.{arith}
 use lib.ListN.{length, getD, set, replicate, length-set, List·getD-eq-default}
 use lib.Seq.{getD-set-same, getD-set-other}
-use Rattle.bits.proofs.Lists.{zeros-at}
+use Rattle.bits.proofs.Lists.{zeros-at, at-places}
 use Rattle.card.specs.Fields.{Stream, store, storeRows, storeChecks, storeStreams, storeCounts}
 use Rattle.card.specs.Layout.{MasksIn, AllMasksIn, StreamIn, AllStreamsIn}
 
@@ -15,10 +15,12 @@ use Rattle.card.specs.Layout.{MasksIn, AllMasksIn, StreamIn, AllStreamsI
 abbrev pub noStream : Stream
 noStream = record { count = 0; checks = [] }
 
-pub stream-in : (p m : ℕ) (streams : List Stream) → AllStreamsIn p m streams → (i : ℕ) → i < length streams → StreamIn p m (getD streams i noStream)
-stream-in p m [] a i h = absurd (omega arith)
-stream-in p m (s ∷ streams) a zero h = a .0
-stream-in p m (s ∷ streams) a (suc i) h = stream-in p m streams (a .1) i (omega arith)
+module _ (p m : ℕ) where
+  pub masks-in-list : (lists : List (List ℕ)) → AllMasksIn p m lists → (i : ℕ) → i < length lists → MasksIn p m (getD lists i [])
+  masks-in-list = at-places (MasksIn p m) (AllMasksIn p m) [] (λ vs lists a. a)
+
+  pub stream-in-list : (streams : List Stream) → AllStreamsIn p m streams → (i : ℕ) → i < length streams → StreamIn p m (getD streams i noStream)
+  stream-in-list = at-places (StreamIn p m) (AllStreamsIn p m) noStream (λ s streams a. a)
 
 -- ---- tables
 

@@ -9,7 +9,7 @@ use Rattle.bits.specs.Sums.{sumBelow, xorBelow, upTo}
 use Rattle.bits.specs.Digits.{bit, fromDigits, dot, shiftUp}
 use Rattle.code.specs.Bench.{P}
 use Rattle.code.specs.Code.{mostFrames}
-use Rattle.code.specs.Registers.{generatorMask, shiftIn, historyBy, parityBy, digitBy, frameBy, movedOn}
+use Rattle.code.specs.Registers.{generatorMask, generatorSum, shiftIn, historyBy, parityBy, digitBy, frameBy, movedOn}
 use Rattle.card.specs.Bench.{cardP}
 use Rattle.card.specs.Outcome.{CardOutcome}
 use Rattle.vote.specs.Voting.{checkBy, votesBy, majorityBy, decideBy}
@@ -18,7 +18,7 @@ use Rattle.receiving.specs.Opening as receiver
 use Rattle.receiving.specs.Readings.{readByteOf}
 use Rattle.receiving.specs.Receive as received
 use Rattle.voters.specs.ErasedDigits.{erasedWith, erasedMoved}
-use Rattle.decoder.specs.Registers.{syndromeBy, withSyndromes, errorsBy, correctedDigit, correctedBy, feedbackBy, clearedBy, takenOutBy, fedBackBy}
+use Rattle.decoder.specs.Registers.{syndromeBy, withSyndromes, errorsBy, correctedDigit, correctedBy, clearedBy, takenOutBy, fedBackBy}
 use Rattle.decoder.specs.Held.{heldWith, errorsIn, heldAfter}
 use Rattle.decoder.specs.Receive.{firstCircuit, errorsOf, withFrame, handingOf, takenOf}
 use Rattle.encoder.specs.Calls.{callOf, givenBy, framesGiven}
@@ -60,11 +60,11 @@ abbrev information : List ℕ
 information = 1 ∷ 2 ∷ 0 ∷ 1 ∷ []
 
 frames-out : (receiving.framesOf (received.openOf firstCircuit P) oneWrong ≡ 1 ∷ 0 ∷ 1 ∷ []) × (receiving.framesOf (received.openOf firstCircuit P) oneRefused ≡ 1 ∷ 0 ∷ 1 ∷ [])
-unfolding sumBelow xorBelow upTo bit fromDigits dot shiftUp generatorMask shiftIn historyBy parityBy movedOn checkBy votesBy majorityBy decideBy erasedWith erasedMoved syndromeBy withSyndromes errorsBy correctedDigit correctedBy feedbackBy clearedBy takenOutBy fedBackBy heldWith errorsIn heldAfter errorsOf readByteOf received.openOf withFrame handingOf takenOf received.inTurn received.admitOf received.refusedOf received.settledOf received.receiveOf received.receiveByteOf replyOf handedBy handedIn answers
+unfolding sumBelow xorBelow upTo bit fromDigits dot shiftUp generatorMask generatorSum shiftIn historyBy parityBy movedOn checkBy votesBy majorityBy decideBy erasedWith erasedMoved syndromeBy withSyndromes errorsBy correctedDigit correctedBy clearedBy takenOutBy fedBackBy heldWith errorsIn heldAfter errorsOf readByteOf received.openOf withFrame handingOf takenOf received.inTurn received.admitOf received.refusedOf received.settledOf received.receiveOf received.receiveByteOf replyOf handedBy handedIn answers
 frames-out = (refl, refl)
 
 frames-sent : sending.framesOf (sent.openOf P) information ≡ 3 ∷ 2 ∷ 3 ∷ 2 ∷ []
-unfolding sumBelow upTo bit fromDigits dot generatorMask shiftIn historyBy parityBy digitBy frameBy sent.openOf sent.refusedOf sent.historyNext sent.frameNext sent.encodedOf sent.sendOf sent.sendTailOf callOf givenBy framesGiven
+unfolding sumBelow upTo bit fromDigits dot generatorMask generatorSum shiftIn historyBy parityBy digitBy frameBy sent.openOf sent.refusedOf sent.historyNext sent.frameNext sent.encodedOf sent.sendOf sent.sendTailOf callOf givenBy framesGiven
 frames-sent = refl
 
 -- ---- what the runs come to

@@ -2,6 +2,7 @@ pub mod Frames
 pub mod ParityLaws
 pub mod Sent
 pub mod Registers
+pub mod GeneratorSums
 pub mod StreamRegisters
 pub mod Sending
 pub mod Touches

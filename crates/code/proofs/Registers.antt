@@ -26,6 +26,11 @@ pub in-table : (g : List ℕ) (i j : ℕ) → i < 4 → j < 8 → generatorMask 
 unfolding generatorMask
 in-table g i j h l = simp (lt-ltb i 4 h, lt-ltb j 8 l)
 
+-- a generator has no term beyond m
+pub generator-beyond : (c : Card) → Guarantees c → (i j a : ℕ) → c .m < a → generator c i j a ≡ 0
+unfolding generator
+generator-beyond c G i j a l = bit-high (getD (c .generators) (i * 8 + j) 0) (c .m + 1) a (G .generators-within (i * 8 + j)) (omega arith)
+
 -- ---- a digit taken in
 shift-first : (x d : ℕ) → d < 2 → bit (shiftIn x d) 0 ≡ d
 unfolding shiftIn
@@ -82,7 +87,7 @@ module _ (c : Card) (G : Guarantees c) (frames : List ℕ) (t : ℕ) (h : List �
           let y = getD h i 0 in
           ap (λ (x : ℕ). dot x y) (in-table (c .generators) i j (omega (arith, G .k-most)) (omega (arith, G .n-most)))
           ∙ sum-cut 32 (suc (c .m)) (λ a. bit g a * bit y a) (omega (arith, G .m-most))
-          (λ a w. ap (λ (x : ℕ). x * bit y a) (bit-high g (c .m + 1) a (G .generators-within (i * 8 + j)) (omega arith)) ∙ omega arith)
+          (λ a w. ap (λ (x : ℕ). x * bit y a) (generator-beyond c G i j a (omega arith)) ∙ omega arith)
           ∙ sum-same (suc (c .m)) (λ a. bit g a * bit y a) (λ a. bit g a * back (digit frames i) t a) (λ a q. ap (λ (x : ℕ). bit g a * x) (H i a l (omega (arith, G .m-most))))
 
 -- ---- the frame that is sent

@@ -7,12 +7,16 @@ use mathlib.Core.List.{List, _++_}
 use lib.ListN.{getD, drop, replicate}
 use lib.Bits.{bitXor}
 use lib.Dec.{ltb}
-use Rattle.bits.specs.Sums.{sumBelow, upTo}
+use Rattle.bits.specs.Sums.{sumBelow, xorBelow, upTo}
 use Rattle.bits.specs.Digits.{bit, fromDigits, shiftUp, dot}
 
 -- the mask of information stream i and parity stream j, zero beyond the table
 unfoldable pub generatorMask : List ℕ → ℕ → ℕ → ℕ
 generatorMask g i j = cond (ltb i 4) (cond (ltb j 8) (getD g (i * 8 + j) 0) 0) 0
+
+-- the generators, on parity stream j, of those of the k information streams that are in x, added up
+unfoldable pub generatorSum : List ℕ → ℕ → ℕ → ℕ → ℕ
+generatorSum g k x j = xorBelow k (λ i. generatorMask g i j * bit x i)
 
 -- a register of 32 digits with one digit more at its low end
 unfoldable pub shiftIn : ℕ → ℕ → ℕ

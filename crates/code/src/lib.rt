@@ -2,7 +2,7 @@
 // the last one taken.
 ghost use mathlib.Core.Path.{_≡_};
 ghost use Prim.Native.Nat.{_<_};
-ghost use Rattle.code.specs.Registers.{generatorMask, shiftIn, historyBy, parityBy, frameBy, withDigits, movedOn};
+ghost use Rattle.code.specs.Registers.{generatorMask, generatorSum, shiftIn, historyBy, parityBy, frameBy, withDigits, movedOn};
 
 // A stream has at most this many frames, the tail included.
 pub const MOST_FRAMES: usize = 1048576;
@@ -28,6 +28,19 @@ pub fn generator(generators: &[u32; 32], i: usize, j: usize) -> u32
         }
     }
     0
+}
+
+// The generators, on parity stream j, of those of the k information streams that are in x, added up. Beyond the table there is nothing to add.
+pub fn generator_sum(generators: &[u32; 32], k: usize, x: u32, j: usize) -> u32
+    ensures { λ r. ⌜ r ≡ generatorSum (now (generators .entry)) k x j ⌝ }
+{
+    let mut sum: u32 = 0;
+    let mut i = 0;
+    while i < k {
+        sum = sum ^ generator(generators, i, j) * bits::digit(x, i);
+        i += 1;
+    }
+    sum
 }
 
 // The register with one digit more at its low end; its oldest digit leaves the word.

@@ -4,29 +4,28 @@ use Prim.Native.Nat.{ℕ, suc, _+_, _-_, _*_, _/_, _%_, _≤_, _<_}
 use mathlib.Core.Path.{_≡_, sym, ap, ap₂, _∙_}
 use mathlib.Core.Logic.{⊎-elim}
 use mathlib.Core.List.{List, [], _∷_, _++_}
-use native.Mathlib.Nat.{zero-mul}
+use native.Mathlib.Nat.{add-mod-mod}
 use native.Mathlib.Omega.{arith}
 use lib.ListN.{length, getD, replicate}
 use lib.Bits.{bitXor}
 use Rattle.bits.specs.Sums.{sumBelow, grown}
 use Rattle.bits.specs.Digits.{bit, shiftUp}
 use Rattle.bits.proofs.Cases.{le-or-lt, same-or-not}
-use Rattle.bits.proofs.Sums.{sum-same, sum-none}
 use Rattle.bits.proofs.Lists.{upTo-at, part-at}
 use Rattle.bits.proofs.Back.{back-in}
 use Rattle.bits.proofs.Held.{held, held-in, held-out, put-in}
-use Rattle.bits.proofs.Digits.{bit-lt, bit-suc, bit-high, bit-xor, bit-masks, from-digits-same}
+use Rattle.bits.proofs.Digits.{add-none, bit-suc, bit-xor, from-digits-same}
 use Rattle.code.specs.Code.{generator, digit}
 use Rattle.code.specs.Guarantees.{Guarantees}
-use Rattle.code.specs.Registers.{generatorMask, movedOn}
+use Rattle.code.specs.Registers.{generatorSum, movedOn}
 use Rattle.code.specs.declared.Card.{Card}
-use Rattle.code.proofs.Registers.{in-table}
 use Rattle.code.proofs.Registers.{HistoryWith, parity-next}
+use Rattle.code.proofs.GeneratorSums.{sum-bit, sum-beyond}
 use Rattle.majority.specs.Rule.{syndrome, cleared, decideFrame, decided, corrected}
 use Rattle.voters.specs.declared.erased.Erased.{Erased}
 use Rattle.voters.proofs.ErasedDigits.{ErasedAt, none-erased, marks-held}
 use Rattle.voters.proofs.Voters.{decide-voting-is}
-use Rattle.decoder.specs.Registers.{syndromeBy, withSyndromes, errorsBy, correctedDigit, correctedBy, feedbackBy, clearedBy, takenOutBy, fedBackBy}
+use Rattle.decoder.specs.Registers.{syndromeBy, withSyndromes, errorsBy, correctedDigit, correctedBy, clearedBy, takenOutBy, fedBackBy}
 use Rattle.receiving.specs.Receive.{placeOf}
 use Rattle.vote.proofs.Voting.{decide-unerased}
 use Rattle.majority.proofs.Streams.{decided-length, decided-at}
@@ -36,10 +35,6 @@ use Rattle.decoder.proofs.Deciding.{errors-quiet, errors-marked}
 -- the registers hold the syndromes of times u to n - 1, with the errors decided before u taken out
 abbrev pub SyndromesAt : Card → List ℕ → List ℕ → ℕ → ℕ → List ℕ → Type 0
 SyndromesAt c frames erased u n y = (j a : ℕ) → j < c .p → bit (getD y j 0) a ≡ held (λ v. cleared c frames (decided c frames erased u) v j) u n a
-
--- a digit added where there was none
-alone-left : {x y v : ℕ} → x ≡ v → y ≡ 0 → v < 2 → (x + y) % 2 ≡ v
-alone-left e q h = omega arith
 
 module _ (c : Card) (G : Guarantees c) (frames erased : List ℕ) (t u : ℕ) (hu : u ≡ t - c .m) where
   -- ---- the frame comes in
@@ -95,14 +90,6 @@ module _ (c : Card) (G : Guarantees c) (frames erased : List ℕ) (t u : ℕ) (h
         (H i (c .m) li (omega (arith, G .m-most)) ∙ back-in (digit frames i) t (c .m) hm ∙ ap (digit frames i) (sym hu))
         (ap (λ (x : ℕ). bit x i) (sym (decided-at c frames erased n u l))))
 
-    -- what is fed back to register j: the generators of the streams in error
-    fed : (e j a : ℕ) → j < c .p → bit (feedbackBy (c .generators) e (c .k) j) a ≡ sumBelow (c .k) (λ i. generator c i j a * bit e i) % 2
-    unfolding feedbackBy generator
-    fed e j a hj =
-        bit-masks (c .k) (λ i. generatorMask (c .generators) i j) (λ i. bit e i) (λ i. bit-lt e i) a
-        ∙ ap (λ (x : ℕ). x % 2)
-        (sum-same (c .k) _ _ (λ i l. ap (λ (x : ℕ). bit x a * bit e i) (in-table (c .generators) i j (omega (arith, G .k-most)) (omega (arith, G .n-most)))))
-
     -- the decided errors taken out, and the registers moved on
     pub fed-next : SyndromesAt c frames erased (suc u) (suc t) (fedBackBy y (c .generators) (decideFrame c frames erased (decided c frames erased u) u) (c .k) (c .p))
     unfolding fedBackBy takenOutBy clearedBy movedOn decided grown
@@ -114,12 +101,12 @@ module _ (c : Card) (G : Guarantees c) (frames erased : List ℕ) (t u : ℕ) (h
         ap (λ (w : ℕ). bit w a) (upTo-at 8 (λ b. getD (takenOutBy y (c .generators) e (c .k) (c .p)) b 0 / 2) j (omega (arith, G .n-most)))
         ∙ sym (bit-suc (getD (takenOutBy y (c .generators) e (c .k) (c .p)) j 0) a)
         ∙ ap (λ (w : ℕ). bit w (suc a)) (part-at (clearedBy y (c .generators) e (c .k)) (replicate 8 0) (c .p) j hj)
-        ∙ bit-xor x (feedbackBy (c .generators) e (c .k) j) (suc a)
-        ∙ ap₂ (λ (v w : ℕ). (v + w) % 2) (Y j (suc a) hj) (fed e j (suc a) hj)
-        ∙ mod-right (held (λ v. cleared c frames errors v j) u (suc t) (suc a)) z
+        ∙ bit-xor x (generatorSum (c .generators) (c .k) e j) (suc a)
+        ∙ ap₂ (λ (v w : ℕ). (v + w) % 2) (Y j (suc a) hj) (sum-bit c G e j (suc a) hj)
+        ∙ add-mod-mod (held (λ v. cleared c frames errors v j) u (suc t) (suc a)) z 2
         ∙ ⊎-elim
         (λ (l : t < suc u + a).
-        alone-left (held-out (λ v. cleared c frames errors v j) u (suc t) (suc a) (omega arith)) (none e a (omega arith)) (omega arith)
+        add-none (held-out (λ v. cleared c frames errors v j) u (suc t) (suc a) (omega arith)) (sum-beyond c G e j (suc a) (omega arith)) (omega arith)
         ∙ sym (held-out (λ v. cleared c frames (errors ++ (e ∷ [])) v j) (suc u) (suc t) a l))
         (λ (l : suc u + a < suc t).
         let q : u + suc a ≡ suc u + a = omega arith in
@@ -129,12 +116,3 @@ module _ (c : Card) (G : Guarantees c) (frames erased : List ℕ) (t u : ℕ) (h
         ∙ sym (cleared-fed errors e (suc u + a) (omega (arith, decided-length c frames erased u)) c j (omega (arith, decided-length c frames erased u)) frames)
         ∙ sym (held-in (λ v. cleared c frames (errors ++ (e ∷ [])) v j) (suc u) (suc t) a l))
         (le-or-lt (suc t) (suc u + a))
-      where
-        mod-right : (x y : ℕ) → (x + y % 2) % 2 ≡ (x + y) % 2
-        mod-right x y = omega arith
-
-        none : (e a : ℕ) → c .m ≤ a → sumBelow (c .k) (λ i. generator c i j (suc a) * bit e i) ≡ 0
-        none e a w =
-            unfold generator in
-            (sum-none (c .k) _
-            (λ i l. ap (λ (v : ℕ). v * bit e i) (bit-high (getD (c .generators) (i * 8 + j) 0) (c .m + 1) (suc a) (G .generators-within (i * 8 + j)) (omega arith)) ∙ zero-mul (bit e i)))

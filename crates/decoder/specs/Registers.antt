@@ -2,16 +2,16 @@
 -- in proofs/Step.antt tie it to the rule of document 01 (`Rule`).
 -- Digit a of syndrome register j is the syndrome of parity stream j at u + a, where the frame of time u is decided next.
 -- Assumes nothing.
-use Prim.Native.Nat.{ℕ, _+_, _*_, _%_}
+use Prim.Native.Nat.{ℕ, _+_, _%_}
 use mathlib.Core.Bool.{cond}
 use mathlib.Core.List.{List, _++_}
 use lib.ListN.{getD, drop, replicate}
 use lib.Bits.{bitXor}
 use lib.Count.{ones}
 use lib.Dec.{eqb}
-use Rattle.bits.specs.Sums.{sumBelow, xorBelow, upTo}
+use Rattle.bits.specs.Sums.{sumBelow, upTo}
 use Rattle.bits.specs.Digits.{bit, fromDigits, shiftUp}
-use Rattle.code.specs.Registers.{generatorMask, parityBy, movedOn}
+use Rattle.code.specs.Registers.{generatorSum, parityBy, movedOn}
 use Rattle.vote.specs.Voting.{decideBy}
 use Rattle.voters.specs.Voters.{decideVotingBy}
 
@@ -35,13 +35,9 @@ correctedDigit h e m i = (bit (getD h i 0) m + bit e i) % 2
 unfoldable pub correctedBy : List ℕ → ℕ → ℕ → ℕ → ℕ
 correctedBy h e k m = fromDigits k (correctedDigit h e m)
 
--- what the decided errors e changed in syndrome register j
-unfoldable pub feedbackBy : List ℕ → ℕ → ℕ → ℕ → ℕ
-feedbackBy g e k j = xorBelow k (λ i. generatorMask g i j * bit e i)
-
--- syndrome register j with the decided errors e taken out
+-- syndrome register j with the decided errors e taken out: what they changed in it are the generators of their streams
 unfoldable pub clearedBy : List ℕ → List ℕ → ℕ → ℕ → ℕ → ℕ
-clearedBy y g e k j = bitXor (getD y j 0) (feedbackBy g e k j)
+clearedBy y g e k j = bitXor (getD y j 0) (generatorSum g k e j)
 
 -- the syndrome registers with the decided errors e taken out
 unfoldable pub takenOutBy : List ℕ → List ℕ → ℕ → ℕ → ℕ → List ℕ

@@ -3,7 +3,7 @@
 ghost use mathlib.Core.Path.{_≡_};
 ghost use Prim.Native.Nat.{ℕ, _<_, _≤_};
 ghost use lib.ListN.{getD};
-ghost use Rattle.decoder.specs.Registers.{syndromeBy, withSyndromes, errorsBy, correctedBy, feedbackBy, takenOutBy, onesBy};
+ghost use Rattle.decoder.specs.Registers.{syndromeBy, withSyndromes, errorsBy, correctedBy, takenOutBy, onesBy};
 
 // The syndrome of parity stream j: its digit in the frame, plus the parity of the information digits in the history registers.
 fn syndrome(generators: &[u32; 32], history: &[u32; 4], k: usize, frame: u32, j: usize) -> u32
@@ -88,20 +88,7 @@ pub(crate) fn corrected(history: &[u32; 4], errors: u32, k: usize, m: usize) -> 
     frame as u8
 }
 
-// What the decided errors changed in syndrome register j: the generators of the streams in error.
-fn feedback(generators: &[u32; 32], errors: u32, k: usize, j: usize) -> u32
-    ensures { λ r. ⌜ r ≡ feedbackBy (now (generators .entry)) errors k j ⌝ }
-{
-    let mut sum: u32 = 0;
-    let mut i = 0;
-    while i < k {
-        sum = sum ^ code::generator(generators, i, j) * bits::digit(errors, i);
-        i += 1;
-    }
-    sum
-}
-
-// The syndrome registers with the decided errors taken out.
+// The syndrome registers with the decided errors taken out: what these changed are the generators of the streams in error.
 pub(crate) fn taken_out(
     held: &[u32; 8],
     generators: &[u32; 32],
@@ -115,7 +102,7 @@ pub(crate) fn taken_out(
     let mut next = [0u32; 8];
     let mut j = 0;
     while j < p {
-        let change = feedback(generators, errors, k, j);
+        let change = code::generator_sum(generators, k, errors, j);
         next[j] = bits::word(held, j) ^ change;
         j += 1;
     }

@@ -19,7 +19,7 @@ use Rattle.digit_decoder.specs.Registers.{shareBy, sumsBy, othersBy, own
 
 -- two words added up, taken or not, stay a word
 pub share-lt : (x y rest : ℕ) → x < 2 ^ 32 → y < 2 ^ 32 → bitXor x y * (rest % 2) < 2 ^ 32
-share-lt x y rest h k = mask-times-lt (bitXor x y) (rest % 2) (xor-lt 32 x y h k) (omega arith)
+share-lt x y rest h k = mask-times-lt 32 (bitXor x y) (rest % 2) (xor-lt 32 x y h k) (omega arith)
 
 module _ (g r d : ℕ) where
   -- what term l of the generator adds

@@ -27,7 +27,7 @@ use Rattle.code.specs.Registers.{generatorMask}
 use Rattle.code.specs.declared.Card.{Card}
 use Rattle.code.proofs.Besides.{besides-own, besides-other}
 use Rattle.code.proofs.ParityLaws.{paritySum}
-use Rattle.code.proofs.Registers.{in-table}
+use Rattle.code.proofs.Registers.{in-table, generator-beyond}
 use Rattle.code.proofs.StreamRegisters.{DigitsAt}
 use Rattle.majority.specs.SecondCircuit.{entering, vote, votesForOne, decideDigit, decideDigits, decidedDigits}
 use Rattle.majority.specs.Rule.{voters}
@@ -146,7 +146,7 @@ module _ (c : Card) (G : Guarantees c) (frames digits : List ℕ) (t u : ℕ) (h
           ∙ twice _
           ∙ ap (λ (x : ℕ). x % 2)
           (sum-cut 32 (suc (c .m)) (λ l. bit g l * back (seen frames digits u s) (u + a) l) (omega (arith, G .m-most))
-          (λ l w. ap (λ (x : ℕ). x * back (seen frames digits u s) (u + a) l) (bit-high g (c .m + 1) l (G .generators-within (s * 8 + j)) (omega arith)) ∙ omega arith))
+          (λ l w. ap (λ (x : ℕ). x * back (seen frames digits u s) (u + a) l) (generator-beyond c G s j l (omega arith)) ∙ omega arith))
         where
           twice : (x : ℕ) → x % 2 % 2 ≡ x % 2
           twice x = omega arith

@@ -1,10 +1,13 @@
--- Bytes at the front of an output, from what was written.
+-- Bytes at the front of an output, from what was written or given.
 use Prim.Native.Nat.{ℕ, _≤_}
 use mathlib.Core.Path.{_≡_, sym, ap, _∙_}
 use mathlib.Core.List.{List, _++_}
 use native.Mathlib.Omega.{arith}
 use lib.ListN.{length, take, drop, length-append}
 use lib.Seq.{length-take-le, take-append-seam, drop-append-seam}
+use lib.IntN.{pos}
+use lib.Signed.{mag}
+use Rattle.outcomes.specs.Outcome.{BurstOutcome, outcome, givenOf}
 use Rattle.outcomes.proofs.Writing.{wrote-front}
 use Rattle.listing.specs.AtFront.{AtFront}
 use Rattle.listing.specs.Written.{WroteWhole}
@@ -18,6 +21,13 @@ front-written {s = s} output room e w l o =
       bytes-are = wrote-front (w .wrote) fits ∙ ap (λ s. s ++ drop (length s) output) (sym e);
       within = omega (arith, w .within);
     }
+
+pub front-given : {bytes output after : List ℕ} {count : ℕ} (room : ℕ) → outcome (pos count) after ≡ givenOf bytes output → length bytes ≤ room
+    → AtFront room bytes output count after
+unfolding givenOf
+front-given room g l =
+    let n = ap (λ (b : BurstOutcome). mag (b .answer)) g in
+    record { count-is = n; bytes-are = ap (λ (b : BurstOutcome). b .output) g; within = omega (arith, n) }
 
 -- the bytes are within the output
 module _ {room : ℕ} {bytes output after : List ℕ} {count : ℕ} (w : AtFront room bytes output count after) where

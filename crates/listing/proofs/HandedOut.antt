@@ -1,11 +1,10 @@
 -- What the burst receiver gives where it meets no refusal: the rule's frames.
 use Prim.Native.Nat.{ℕ, _+_, _≤_}
-use mathlib.Core.Path.{_≡_, refl, sym, ap, subst, _∙_}
+use mathlib.Core.Path.{_≡_, ap, subst, _∙_}
 use mathlib.Core.Bool.{false}
 use mathlib.Core.List.{List}
 use native.Mathlib.Omega.{arith}
-use lib.ListN.{length, take, drop, length-take}
-use lib.Seq.{take-at}
+use lib.ListN.{length, take}
 use lib.IntN.{ℤ, pos}
 use Rattle.bits.specs.Digits.{anyBeyond}
 use Rattle.card.specs.Outcome.{Outcome}
@@ -18,7 +17,9 @@ use Rattle.outcomes.specs.Claims.{Admitted}
 use Rattle.outcomes.specs.Outcome.{BurstOutcome, outcome, givenOf, underCard}
 use Rattle.outcomes.specs.Receiving.{receiveUnder, receiveOf}
 use Rattle.outcomes.proofs.Received.{receive-given}
-use Rattle.listing.specs.Written.{HandsOut, ReadAs}
+use Rattle.listing.specs.AtFront.{AtFront}
+use Rattle.listing.specs.Written.{ReadAs}
+use Rattle.listing.proofs.AtFront.{front-is}
 
 module _ (card frames buffer : List ℕ) (A : Admitted card frames buffer) where
   given : receiveOf card frames buffer ≡ givenOf (decoded (readCard card .card) frames) buffer
@@ -35,17 +36,10 @@ module _ (card frames buffer : List ℕ) (A : Admitted card frames buffer) where
     unfolding givenOf
     answer-count = ap (λ (b : BurstOutcome). b .answer) (e ∙ given)
 
-    pub hands-out : {count : ℕ} → count ≡ length (decoded (readCard card .card) frames) → HandsOut (decoded (readCard card .card) frames) after count
+    pub hands-out : {count : ℕ} → count ≡ length (decoded (readCard card .card) frames)
+        → AtFront mostFrames (decoded (readCard card .card) frames) buffer count after
     unfolding givenOf
-    hands-out n =
-        let d = decoded (readCard card .card) frames in
-        record {
-          count-is = n;
-          front-is =
-              ap (λ x. take x after) n
-              ∙ ap (λ (b : BurstOutcome). take (length d) (b .output)) (e ∙ given)
-              ∙ take-at d (drop (length d) buffer) (length d) refl;
-        }
+    hands-out n = record { count-is = n; bytes-are = ap (λ (b : BurstOutcome). b .output) (e ∙ given); within = omega (arith, count-most) }
 
 -- ---- an accepted card and frames within its streams, of which the buffer has room for all
 pub admitted : {bytes : List ℕ} {c : Card} (frames buffer : List ℕ) → ReadAs bytes c → anyBeyond (c .k + c .p) frames ≡ false → length frames ≤ 32768
@@ -58,14 +52,6 @@ admitted frames buffer R w few room =
       within-streams = subst (λ (x : Card). anyBeyond (x .k + x .p) frames ≡ false) (R .card-is) w;
     }
 
--- ---- the front of the buffer
-module _ {handedOut after : List ℕ} {count : ℕ} (H : HandsOut handedOut after count) where
-  pub handed-count : count ≡ length (take count after)
-  handed-count = H .count-is ∙ sym (ap length (H .front-is))
-
-  pub handed-within : count ≤ length after
-  handed-within = omega (arith, handed-count, length-take count after)
-
-pub handed-few : {after : List ℕ} {count : ℕ} (c : Card) (frames : List ℕ) → HandsOut (decoded c frames) after count → length frames ≤ 32768
+pub handed-few : {buffer after : List ℕ} {count room : ℕ} (c : Card) (frames : List ℕ) → AtFront room (decoded c frames) buffer count after → length frames ≤ 32768
     → length (take count after) ≤ 32768
-handed-few c frames H few = omega (arith, ap length (H .front-is), decoded-length c frames)
+handed-few c frames H few = omega (arith, ap length (front-is H), decoded-length c frames)

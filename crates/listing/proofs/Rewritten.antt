@@ -1,13 +1,12 @@
 -- What a stored card is written as, case by case, and the promise of `rewrite`.
 use Prim.Native.Nat.{ℕ, _≤_, _<_}
 use mathlib.Core.Path.{_≡_, refl, sym, ap, subst, _∙_}
-use mathlib.Core.List.{List, _∷_, _++_}
+use mathlib.Core.List.{List, _∷_}
 use mathlib.Core.Logic.{⊎-elim}
 use native.Mathlib.Omega.{arith}
-use lib.ListN.{length, getD, take, drop, length-take}
+use lib.ListN.{length, getD, take, length-take}
 use lib.Seq.{take-all}
 use lib.IntN.{pos}
-use lib.Signed.{mag}
 use borrow.Author.Tests.{lt-ltb, le-ltb, le-leb, lt-leb}
 use Rattle.bits.proofs.Cases.{le-or-lt}
 use Rattle.code.specs.declared.Card.{Card}
@@ -20,13 +19,13 @@ use Rattle.card.proofs.Acceptance.{accepted-fields, accepted-length, reads-back
 use Rattle.card.proofs.RefusedCard.{not-both}
 use Rattle.outcomes.specs.Text.{text, line}
 use Rattle.outcomes.specs.Listing.{tooLongLine, refusedLine}
-use Rattle.outcomes.specs.Outcome.{BurstOutcome, outcome, givenOf}
+use Rattle.outcomes.specs.Outcome.{outcome, givenOf}
 use Rattle.writer.specs.Claims.{ReadsUnder, ReadsAs}
 use Rattle.writer.proofs.Forms.{written-form}
 use Rattle.listing.specs.AtFront.{AtFront}
 use Rattle.listing.specs.Written.{WroteWhole}
 use Rattle.listing.specs.Rewriting.{rewrittenUnder, rewritten, Rewrites}
-use Rattle.listing.proofs.AtFront.{front-written}
+use Rattle.listing.proofs.AtFront.{front-written, front-given}
 
 -- ---- each case
 module _ (input : List ℕ) where
@@ -110,12 +109,4 @@ module _ (input output : List ℕ) (bytes : (i : ℕ) → getD input i 0 < 256) 
 
   pub rewrites-card : (c : Card) → rewritten input ≡ written c → length (written c) ≤ 1163 → outcome (pos count) after ≡ givenOf (written c) output
       → Rewrites input output count after
-  unfolding givenOf
-  rewrites-card c e l g =
-      let n : count ≡ length (written c) = ap (λ (b : BurstOutcome). mag (b .answer)) g in
-      rewrites
-      (record {
-        count-is = n ∙ ap length (sym e);
-        bytes-are = ap (λ (b : BurstOutcome). b .output) g ∙ ap (λ (l : List ℕ). l ++ drop (length l) output) (sym e);
-        within = omega arith;
-      })
+  rewrites-card c e l g = rewrites (subst (λ (bytes : List ℕ). AtFront 1163 bytes output count after) (sym e) (front-given 1163 g l))

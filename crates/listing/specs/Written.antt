@@ -4,7 +4,6 @@ use Prim.Native.Nat.{ℕ, _≤_}
 use Prim.Native.Char.{code}
 use mathlib.Core.Path.{_≡_}
 use mathlib.Core.List.{List, _∷_, _++_}
-use lib.ListN.{length, take}
 use Rattle.code.specs.Guarantees.{Guarantees}
 use Rattle.card.specs.Outcome.{accepted}
 use Rattle.card.specs.Reading.{readCard}
@@ -24,11 +23,6 @@ sizes k n m = (lettered (code "k") k ++ lettered (code "n") n) ++ lettered (code
 pub record WroteWhole (most : ℕ) (output written after : List ℕ) (end : ℕ) : Type 0 where
   pub wrote : Wrote output 0 written after end
   pub within : end ≤ most
-
--- the frames handed out stand at the front of the buffer
-pub record HandsOut (handedOut after : List ℕ) (count : ℕ) : Type 0 where
-  pub count-is : count ≡ length handedOut
-  pub front-is : take count after ≡ handedOut
 
 -- the bytes are those of the card c, which is accepted
 pub record ReadAs (bytes : List ℕ) (c : Card) : Type 0 where

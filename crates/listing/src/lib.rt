@@ -8,14 +8,16 @@ ghost use mathlib.Core.Bool.{false};
 ghost use Prim.Native.Nat.{_+_, _≤_};
 ghost use lib.ListN.{length, take, drop};
 ghost use Rattle.bits.specs.Digits.{anyBeyond};
+ghost use Rattle.code.specs.Code.{mostFrames};
 ghost use Rattle.code.specs.Guarantees.{Guarantees};
 ghost use Rattle.card.specs.Outcome.Outcome.{accepted};
 ghost use Rattle.card.specs.Reading.{readCard};
 ghost use Rattle.majority.specs.Plain.{decoded};
 ghost use Rattle.outcomes.specs.Claims.{Admitted};
 ghost use Rattle.outcomes.specs.Listing.{firstBeyond, listingOf, listingUnder};
+ghost use Rattle.listing.specs.AtFront.{AtFront};
 ghost use Rattle.listing.specs.Promise.{Lists};
-ghost use Rattle.listing.specs.Written.{WroteWhole, HandsOut, ReadAs};
+ghost use Rattle.listing.specs.Written.{WroteWhole, ReadAs};
 use card::CardRule;
 use card::Refusal;
 use card::Verdict;
@@ -73,7 +75,7 @@ fn first_beyond(frames: &[u8], n: usize) -> usize
 // The frames handed out for a burst that meets no refusal, at the front of the buffer: the count of them.
 fn receive(card: &[u8], frames: &[u8], buffer: &mut [u8]) -> usize
     requires { ⌜ Admitted (now card) (now frames) (now buffer) ⌝ }
-    ensures { λ r. ⌜ HandsOut (decoded (readCard (now (card .entry)) .card) (now (frames .entry))) (now (buffer .exit)) r ⌝ }
+    ensures { λ r. ⌜ AtFront mostFrames (decoded (readCard (now (card .entry)) .card) (now (frames .entry))) (now (buffer .entry)) r (now (buffer .exit)) ⌝ }
 {
     burst::receive::burst_receive(card, frames, buffer) as usize
 }

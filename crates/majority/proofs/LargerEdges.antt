@@ -50,7 +50,7 @@ SixDigit frames w = Counted Six (0 ∷ []) frames [] 0 0 w 6
 
 Six-digits : SixDigit (2 ∷ replicate 6 0 ++ 2 ∷ replicate 12 0 ++ 2 ∷ []) 3 × SixDigit (2 ∷ replicate 6 0 ++ 2 ∷ replicate 4 0 ++ 2 ∷ replicate 7 0 ++ 2 ∷ []) 4
 unfolding sumBelow back bit generator digit count checkMask touchesInfo touchesBy touches besides
-Six-digits = (counted-plain _ _ _ _ Six-sent _ _ refl refl, counted-plain _ _ _ _ Six-sent _ _ refl refl)
+Six-digits = (counted-plain _ _ _ Six-sent _ _ _ refl refl, counted-plain _ _ _ Six-sent _ _ _ refl refl)
 
 -- Wide, for digit i: so many wrong digits, and so many checks that vote
 abbrev WideDigit : List ℕ → List ℕ → ℕ → ℕ → ℕ → Type 0
@@ -58,11 +58,11 @@ WideDigit frames erased i w v = Counted Wide (7 ∷ []) frames erased 0 i w v
 
 Wide-digits : WideDigit (31 ∷ 56 ∷ 24 ∷ []) [] 0 2 4 × WideDigit (31 ∷ 56 ∷ 24 ∷ []) [] 1 1 2 × WideDigit (31 ∷ 56 ∷ 24 ∷ []) [] 2 1 3
 unfolding sumBelow back bit generator digit count checkMask touchesInfo touchesBy touches besides
-Wide-digits = (counted-plain _ _ _ _ Wide-sent _ _ refl refl, counted-plain _ _ _ _ Wide-sent _ _ refl refl, counted-plain _ _ _ _ Wide-sent _ _ refl refl)
+Wide-digits = (counted-plain _ _ _ Wide-sent _ _ _ refl refl, counted-plain _ _ _ Wide-sent _ _ _ refl refl, counted-plain _ _ _ Wide-sent _ _ _ refl refl)
 
 one-more : WideDigit (23 ∷ 56 ∷ 24 ∷ []) [] 0 3 4 × WideDigit (31 ∷ 56 ∷ 16 ∷ []) [] 1 2 2 × WideDigit (31 ∷ 56 ∷ 8 ∷ []) [] 2 2 3
 unfolding sumBelow back bit generator digit count checkMask touchesInfo touchesBy touches besides
-one-more = (counted-plain _ _ _ _ Wide-sent _ _ refl refl, counted-plain _ _ _ _ Wide-sent _ _ refl refl, counted-plain _ _ _ _ Wide-sent _ _ refl refl)
+one-more = (counted-plain _ _ _ Wide-sent _ _ _ refl refl, counted-plain _ _ _ Wide-sent _ _ _ refl refl, counted-plain _ _ _ Wide-sent _ _ _ refl refl)
 
 abbrev lost : List ℕ
 lost = 0 ∷ 48 ∷ 32 ∷ []
@@ -70,14 +70,14 @@ lost = 0 ∷ 48 ∷ 32 ∷ []
 lost-digits : WideDigit (39 ∷ 8 ∷ 24 ∷ []) lost 0 1 2 × WideDigit (39 ∷ 8 ∷ 24 ∷ []) lost 1 0 2 × WideDigit (39 ∷ 8 ∷ 24 ∷ []) lost 2 1 2
 unfolding sumBelow upTo back bit generator digit count checkMask touchesInfo touchesBy touches besides clashes voting
 lost-digits = (
-  counted-voted _ _ _ _ Wide-sent _ _ _ (1 ∷ 1 ∷ 0 ∷ 0 ∷ []) refl refl refl,
-  counted-voted _ _ _ _ Wide-sent _ _ _ (1 ∷ 1 ∷ []) refl refl refl,
-  counted-voted _ _ _ _ Wide-sent _ _ _ (1 ∷ 1 ∷ 0 ∷ []) refl refl refl,
+  counted-voted _ _ _ Wide-sent _ _ _ _ (1 ∷ 1 ∷ 0 ∷ 0 ∷ []) refl refl refl,
+  counted-voted _ _ _ Wide-sent _ _ _ _ (1 ∷ 1 ∷ []) refl refl refl,
+  counted-voted _ _ _ Wide-sent _ _ _ _ (1 ∷ 1 ∷ 0 ∷ []) refl refl refl,
 )
 
 one-more-lost : WideDigit (39 ∷ 0 ∷ 24 ∷ []) lost 0 2 2 × WideDigit (39 ∷ 8 ∷ 8 ∷ []) lost 2 2 2
 unfolding sumBelow upTo back bit generator digit count checkMask touchesInfo touchesBy touches besides clashes voting
-one-more-lost = (counted-voted _ _ _ _ Wide-sent _ _ _ (1 ∷ 1 ∷ 0 ∷ 0 ∷ []) refl refl refl, counted-voted _ _ _ _ Wide-sent _ _ _ (1 ∷ 1 ∷ 0 ∷ []) refl refl refl)
+one-more-lost = (counted-voted _ _ _ Wide-sent _ _ _ _ (1 ∷ 1 ∷ 0 ∷ 0 ∷ []) refl refl refl, counted-voted _ _ _ Wide-sent _ _ _ _ (1 ∷ 1 ∷ 0 ∷ []) refl refl refl)
 
 -- ---- the rows
 

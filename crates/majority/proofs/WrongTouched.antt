@@ -29,21 +29,21 @@ times-is : (x n : ℕ) → x * n ≡ times n x
 times-is x zero = mul-zero x
 times-is x (suc n) = refl
 
-module _ (c : Card) (info frames erased : List ℕ) (u i : ℕ) (whole : List ℕ) (votes : ℕ → ℕ) where
-  -- the wrong digits among those touched, if these were sent and these are the votes
-  abbrev touched-by : ℕ
-  touched-by =
-      sumBelow (suc (c .m))
-      (λ b.
-      sumBelow (c .k + c .p)
-      (λ s.
-      times ((digit frames s (u + b) + digit whole s (u + b)) % 2)
-      (min 1 (1 - besides i b s + sumBelow (count c i) (λ q. votes q * touches c i q b s)))))
+-- the wrong digits among those touched for digit i at u, if these were sent and these are the votes
+abbrev touched-by : Card → List ℕ → List ℕ → ℕ → ℕ → (ℕ → ℕ) → ℕ
+touched-by c whole frames u i votes =
+    sumBelow (suc (c .m))
+    (λ b.
+    sumBelow (c .k + c .p)
+    (λ s.
+    times ((digit frames s (u + b) + digit whole s (u + b)) % 2)
+    (min 1 (1 - besides i b s + sumBelow (count c i) (λ q. votes q * touches c i q b s)))))
 
-  counted-by : sent c info ≡ whole → ((q : ℕ) → q < count c i → voting c erased u i q ≡ votes q)
-      → {w v : ℕ} → touched-by ≡ w → sumBelow (count c i) votes ≡ v → Counted c info frames erased u i w v
+module _ (c : Card) (info whole : List ℕ) (all : sent c info ≡ whole) (frames : List ℕ) where
+  counted-by : (erased : List ℕ) (u i : ℕ) (votes : ℕ → ℕ) → ((q : ℕ) → q < count c i → voting c erased u i q ≡ votes q)
+      → {w v : ℕ} → touched-by c whole frames u i votes ≡ w → sumBelow (count c i) votes ≡ v → Counted c info frames erased u i w v
   unfolding voters wrongTouched touched wrong
-  counted-by all known e n =
+  counted-by erased u i votes known e n =
       record {
         wrong-are =
             sum-cong (suc (c .m))
@@ -57,16 +57,14 @@ module _ (c : Card) (info frames erased : List ℕ) (u i : ℕ) (whole : List �
         voters-are = sum-same (count c i) _ _ known ∙ n;
       }
 
-module _ (c : Card) (info frames : List ℕ) (whole : List ℕ) (all : sent c info ≡ whole) where
   -- nothing is erased
-  pub counted-plain : (u i : ℕ) {w v : ℕ} → touched-by c info frames [] u i whole (λ q. 1) ≡ w → sumBelow (count c i) (λ q. 1) ≡ v
-      → Counted c info frames [] u i w v
-  counted-plain u i = counted-by c info frames [] u i whole (λ q. 1) all (λ q l. every-votes c [] u (none-erased c u) i q)
+  pub counted-plain : (u i : ℕ) {w v : ℕ} → touched-by c whole frames u i (λ q. 1) ≡ w → sumBelow (count c i) (λ q. 1) ≡ v → Counted c info frames [] u i w v
+  counted-plain u i = counted-by [] u i (λ q. 1) (λ q l. every-votes c [] u (none-erased c u) i q)
 
   -- these are the votes
   pub counted-voted : (erased : List ℕ) (u i : ℕ) (votes : List ℕ) → upTo (count c i) (voting c erased u i) ≡ votes
-      → {w v : ℕ} → touched-by c info frames erased u i whole (λ q. getD votes q 0) ≡ w → sumBelow (count c i) (λ q. getD votes q 0) ≡ v
+      → {w v : ℕ} → touched-by c whole frames u i (λ q. getD votes q 0) ≡ w → sumBelow (count c i) (λ q. getD votes q 0) ≡ v
       → Counted c info frames erased u i w v
   counted-voted erased u i votes known =
-      counted-by c info frames erased u i whole (λ q. getD votes q 0) all
+      counted-by erased u i (λ q. getD votes q 0)
       (λ q l. sym (upTo-at (count c i) (voting c erased u i) q l) ∙ ap (λ (l : List ℕ). getD l q 0) known)

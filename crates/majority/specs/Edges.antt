@@ -21,7 +21,8 @@ pub record Edges (Meets : Card → List ℕ → List ℕ → Type 0) : Type 0 wh
   pub P-own-and-parity : Meets P (0 ∷ []) (3 ∷ 0 ∷ []) → ⊥
   -- no information at all: the tail's digits are not meant, and may all be wrong
   pub P-none : Meets P [] (3 ∷ [])
-  -- twenty information frames, and in every second frame the parity digit is wrong; with the tail's information digit too there are two for the last digit
+  -- a long stream is held to no more: twenty information frames, and in every second frame the parity digit is wrong. Each of them is held to it: with the
+  -- tail's information digit too there are two for the last digit
   pub P-long : Meets P (replicate 20 0) (upTo 21 (λ u. u % 2 * 2))
   pub P-long-last : Meets P (replicate 20 0) (upTo 21 (λ u. u % 2 * 2 + u / 20)) → ⊥
   -- Q, J 3: half of it rounded down is one
@@ -39,9 +40,9 @@ pub record Edges (Meets : Card → List ℕ → List ℕ → Type 0) : Type 0 wh
   pub T-two-for-stream-1 : Meets T (3 ∷ []) (3 ∷ 2 ∷ 0 ∷ []) → ⊥
   pub T-two-for-stream-2 : Meets T (3 ∷ []) (3 ∷ 0 ∷ 1 ∷ []) → ⊥
 
--- the same of the larger cards
+-- the same of the larger cards: what a digit stands grows with its J, and its stream and all parity streams count
 pub record LargerEdges (Meets : Card → List ℕ → List ℕ → Type 0) : Type 0 where
-  -- Six, J 6: three wrong digits, on s0, s7 and s20, the last of them in the last frame of the tail; and on s12 too
+  -- Six, J 6: half of it is three, here on s0, s7 and s20, the last of them in the last frame of the tail; and on s12 too
   pub Six-three : Meets Six (0 ∷ []) (2 ∷ replicate 6 0 ++ 2 ∷ replicate 12 0 ++ 2 ∷ [])
   pub Six-four : Meets Six (0 ∷ []) (2 ∷ replicate 6 0 ++ 2 ∷ replicate 4 0 ++ 2 ∷ replicate 7 0 ++ 2 ∷ []) → ⊥
   -- Wide, J 4, 2 and 3, in what is sent for 7 as 63, 8, 56. Parity digits 2 and 3 of time 1 are touched for stream 1 alone, 3 of time 0 for stream 2 alone,

@@ -34,10 +34,10 @@ pub record ErasedRows (handed : Card → List ℕ → List ℕ → List ℕ) : T
   -- and s0 would make a tie; on the erased one s0 and s2 are a tie, and s2 alone would decide 1
   pub own-stream : handed T (1 ∷ 4 ∷ 4 ∷ []) (2 ∷ 0 ∷ 0 ∷ []) ≡ 3 ∷ []
   pub other-stream : handed T (0 ∷ 4 ∷ 4 ∷ []) (2 ∷ 0 ∷ 0 ∷ []) ≡ 1 ∷ []
-  -- Six, where zeros are sent: s0, s1 and s3 are 1, and s20 does not vote, its parity digit being erased: three of five
+  -- more than half of a larger J: Six, where zeros are sent, and s0, s1 and s3 are 1. s20 does not vote, its parity digit being erased: three of five
   pub five-votes : handed Six (2 ∷ 2 ∷ 0 ∷ 2 ∷ replicate 17 0) (replicate 20 0 ++ 2 ∷ []) ≡ 1 ∷ []
-  -- Wide sends 7 as 63, 8, 56: parity digit 3 of time 2 is erased, and the last check of stream 3, which is over two parity streams, does not vote. The
-  -- first one is 1, since parity digit 2 of time 0 came wrong: a tie
+  -- an erased digit of any parity stream: Wide sends 7 as 63, 8, 56. Parity digit 3 of time 2 is erased, and the last check of stream 3, which is over two
+  -- parity streams, does not vote. The first one is 1, since parity digit 2 of time 0 came wrong: a tie
   pub parity-3-lost : handed Wide (47 ∷ 8 ∷ 24 ∷ []) (0 ∷ 0 ∷ 32 ∷ []) ≡ 7 ∷ []
   pub parity-3-not-lost : handed Wide (47 ∷ 8 ∷ 24 ∷ []) [] ≡ 3 ∷ []
   -- and 1 as 9, 56, 32: parity digit 2 of time 1 is erased, and the third check of stream 1 does not vote. The digit itself and parity digit 1 of time 0 came

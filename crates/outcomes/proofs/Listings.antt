@@ -3,7 +3,7 @@ use Prim.Native.Nat.{ℕ, _+_, _-_, _*_, _≤_, _<_}
 use mathlib.Core.Path.{_≡_, refl, sym, ap, ap₂, _∙_}
 use mathlib.Core.Bool.{Bool, true, false, cond, _||_}
 use mathlib.Core.Logic.{⊎-elim}
-use mathlib.Core.List.{List, _++_}
+use mathlib.Core.List.{List}
 use native.Mathlib.Omega.{arith}
 use lib.ListN.{length, getD, take, drop, length-drop}
 use lib.Seq.{take-all, length-take-le, getD-take}
@@ -15,7 +15,7 @@ use Rattle.card.specs.Outcome.{accepted}
 use Rattle.card.specs.Reading.{readCard}
 use Rattle.code.specs.declared.Card.{Card}
 use Rattle.majority.specs.Plain.{decoded}
-use Rattle.outcomes.specs.Listing.{statedLength, cardBytes, frameBytes, tooLong, tooLongLine, refusedLine, cardLine, frameLines, endLine, firstBeyond, listingOf, listingUnder, listing}
+use Rattle.outcomes.specs.Listing.{statedLength, cardBytes, frameBytes, tooLong, tooLongLine, refusedLine, firstBeyond, listingOf, listingUnder, listing}
 use Rattle.outcomes.proofs.Beyond.{beyond-some}
 
 -- ---- the input's length
@@ -67,12 +67,6 @@ module _ (c : Card) (frames : List ℕ) where
   pub within-streams : anyBeyond (c .k + c .p) frames ≡ false → listingUnder accepted c frames ≡ listingOf c (decoded c frames)
   unfolding listingUnder
   within-streams e = rw e
-
-  -- its three parts, for the frames handed out
-  pub put-together : (handedOut lines : List ℕ) (count : ℕ) → lines ≡ handedOut → count ≡ length handedOut
-      → cardLine (c .number) (c .k) (c .k + c .p) (c .m) ++ (frameLines (c .k) 0 lines ++ endLine count) ≡ listingOf c handedOut
-  unfolding listingOf
-  put-together handedOut lines count e n = rw (e, n)
 
 -- ---- the first bytes decide
 

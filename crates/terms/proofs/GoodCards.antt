@@ -6,6 +6,7 @@ use mathlib.Core.Logic.{⊎-elim}
 use native.Mathlib.Omega.{arith}
 use lib.ListN.{length, getD}
 use Rattle.bits.proofs.Cases.{same-or-not}
+use Rattle.bits.proofs.Lists.{from-places}
 use Rattle.code.specs.Checks.{Orthogonal}
 use Rattle.code.specs.declared.Card.{Card}
 use Rattle.card.specs.Fields.{Stream, Fields, cardOf}
@@ -16,30 +17,17 @@ use Rattle.card.specs.Written.{stated}
 use Rattle.card.specs.declared.CardRead as declared
 use Rattle.card.specs.declared.CardRule.the-variants.{Present}
 use Rattle.card.proofs.Defaults.{stated-most, default-stated, stated-default, none-changes}
-use Rattle.card.proofs.Stores.{noStream}
+use Rattle.card.proofs.Stores.{noStream, masks-in-list, stream-in-list}
 use Rattle.terms.specs.Terms.{Masks, WithinLimits, OrthogonalChecks, GoodCard, CardRead}
 
--- ---- what holds of every element of a list, said along the list and place by place
-module _ {A : Type 0} (Each : A → Type 0) (All : List A → Type 0) (d : A) where
-  at-places : ((x : A) (xs : List A) → All (x ∷ xs) → Each x × All xs) → (xs : List A) → All xs → (i : ℕ) → i < length xs → Each (getD xs i d)
-  at-places apart [] a i h = absurd (omega arith)
-  at-places apart (x ∷ xs) a zero h = apart x xs a .0
-  at-places apart (x ∷ xs) a (suc i) h = at-places apart xs (apart x xs a .1) i (omega arith)
-
-  from-places : All [] → ((x : A) (xs : List A) → Each x × All xs → All (x ∷ xs)) → (xs : List A) → ((i : ℕ) → i < length xs → Each (getD xs i d)) → All xs
-  from-places none more [] a = none
-  from-places none more (x ∷ xs) a = more x xs (a 0 (omega arith), from-places none more xs (λ i h. a (suc i) (omega arith)))
-
+-- ---- masks and streams, said along the list and place by place
 module _ (p m : ℕ) where
   masks-at : (masks : List (List ℕ)) → AllMasksIn p m masks → (i : ℕ) → i < length masks → Masks p m (getD masks i [])
-  masks-at masks a i h = let b = at-places (MasksIn p m) (AllMasksIn p m) [] (λ x xs a. a) masks a i h in (b .many, b .within)
+  masks-at masks a i h = let b = masks-in-list p m masks a i h in (b .many, b .within)
 
   masks-from : (masks : List (List ℕ)) → ((i : ℕ) → i < length masks → Masks p m (getD masks i [])) → AllMasksIn p m masks
   masks-from masks a =
       from-places (MasksIn p m) (AllMasksIn p m) [] tt (λ x xs a. a) masks (λ i h. let b = a i h in record { many = b .0; within = b .1 })
-
-  streams-at : (streams : List Stream) → AllStreamsIn p m streams → (i : ℕ) → i < length streams → StreamIn p m (getD streams i noStream)
-  streams-at = at-places (StreamIn p m) (AllStreamsIn p m) noStream (λ x xs a. a)
 
   streams-from : (streams : List Stream) → ((i : ℕ) → i < length streams → StreamIn p m (getD streams i noStream)) → AllStreamsIn p m streams
   streams-from = from-places (StreamIn p m) (AllStreamsIn p m) noStream tt (λ x xs a. a)
@@ -57,7 +45,7 @@ module _ (f : Fields) where
 
   module _ (w : InLimits Present f) where
     stream-in : (i : ℕ) → i < f .head .k → StreamIn p m (stream i)
-    stream-in i h = streams-at p m (f .streams) (w .ranges .streams-in) i (omega (arith, w .ranges .stream-count))
+    stream-in i h = stream-in-list p m (f .streams) (w .ranges .streams-in) i (omega (arith, w .ranges .stream-count))
 
     within-limits : WithinLimits (f .head) (f .rows) (f .streams)
     unfolding stated

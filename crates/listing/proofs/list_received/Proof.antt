@@ -6,7 +6,8 @@ use Rattle.card.specs.Reading.{readCard}
 use Rattle.code.specs.declared.Card.{Card}
 use Rattle.majority.specs.Plain.{decoded}
 use Rattle.outcomes.specs.Listing.{listingOf}
-use Rattle.listing.proofs.HandedOut.{admitted, handed-count, handed-within, handed-few}
+use Rattle.listing.proofs.HandedOut.{admitted, handed-few}
+use Rattle.listing.proofs.AtFront.{front-within, front-length, front-is}
 use Rattle.listing.proofs.Writing.{whole-as}
 use borrow.Author.Needs.{needs}
 use Rattle.listing.proofs.list_received.Statement.{statement}
@@ -21,10 +22,10 @@ receive-requires c κs =
     admitted (start .args .frames .now) (replicate 32768 0) (start .pre .0) (start .pre .1) (start .pre .2) (omega (arith, length-replicate {A = ℕ} 32768 0))
 
 array-share-prefix-buffer : tie.Need-array-share-prefix-buffer
-array-share-prefix-buffer c = handed-within (c .before .receive .ensures)
+array-share-prefix-buffer c = front-within (c .before .receive .ensures)
 
 slice-aggregate-list-handed-out : tie.Need-slice-aggregate-list-handed-out
-slice-aggregate-list-handed-out c = handed-count (c .before .before .receive .ensures)
+slice-aggregate-list-handed-out c = front-length (c .before .before .receive .ensures)
 
 list-handed-out-requires : tie.Need-list-handed-out-requires
 list-handed-out-requires c κs =
@@ -40,7 +41,7 @@ returns : tie.Need-returns
 returns c =
     let start = c .before .before .before .before .before .before .before .before .before .before .before in
     let a = start .args in
-    let front = c .before .before .before .before .before .before .receive .ensures .front-is in
+    let front = front-is (c .before .before .before .before .before .before .receive .ensures) in
     whole-as (ap (listingOf (a .card)) (front ∙ ap (λ (x : Card). decoded x (a .frames .now)) (sym (start .pre .0 .card-is)))) (omega arith)
     (c .before .before .list-handed-out .ensures)
 

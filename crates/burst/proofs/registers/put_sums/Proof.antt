@@ -21,7 +21,7 @@ loop-holds : tie.Need-loop-holds Inv-loop μ-loop
 loop-holds c = record { most = omega arith; room = omega arith; earlier = c .before .pre .1; passed = λ b l. absurd (omega arith) }
 
 generator-sum-requires : tie.Need-generator-sum-requires Inv-loop μ-loop
-generator-sum-requires c κs = omega arith
+generator-sum-requires c κs = tt
 
 add-sums : tie.Need-add-sums Inv-loop μ-loop
 add-sums c = omega arith

@@ -21,8 +21,8 @@ loop-holds : tie.Need-loop-holds Inv-loop μ-loop
 unfolding upTo
 loop-holds c = (omega arith, refl)
 
-feedback-requires : tie.Need-feedback-requires Inv-loop μ-loop
-feedback-requires c κs = tt
+generator-sum-requires : tie.Need-generator-sum-requires Inv-loop μ-loop
+generator-sum-requires c κs = tt
 
 word-requires : tie.Need-word-requires Inv-loop μ-loop
 word-requires c κs = tt
@@ -46,7 +46,7 @@ loop-again c =
     let a = c .before .before .before .before .before .args in (
       omega arith,
       part-step (clearedBy (a .held .now) (a .generators .now) (a .errors) (a .k)) (replicate 8 0) (l .j) (l .next) _ (omega arith) (l .inv .1)
-          (cc (c .word .ensures, c .before .before .feedback .ensures)),
+          (cc (c .word .ensures, c .before .before .generator-sum .ensures)),
     )
 
 returns : tie.Need-returns Inv-loop μ-loop
@@ -63,7 +63,7 @@ taken-out-spec =
     Inv-loop
     μ-loop
     loop-holds
-    feedback-requires
+    generator-sum-requires
     word-requires
     mul-next
     array-write-next

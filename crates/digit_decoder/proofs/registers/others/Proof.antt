@@ -31,7 +31,7 @@ generator-requires : tie.Need-generator-requires Inv-loop μ-loop
 generator-requires c κs = tt
 
 mul-next : tie.Need-mul-next Inv-loop μ-loop
-mul-next c = record { fits = mask-times-lt (c .generator .result) (c .before .before .before .before .before .args .own) (omega arith) (omega arith) }
+mul-next c = record { fits = mask-times-lt 32 (c .generator .result) (c .before .before .before .before .before .args .own) (omega arith) (omega arith) }
 
 mul-next-2 : tie.Need-mul-next-2 Inv-loop μ-loop
 mul-next-2 c = omega arith
