@@ -2,7 +2,7 @@
 use Prim.Native.Nat.{ℕ, zero, suc, _+_, _-_, _*_, _/_, _%_, _^_, _≤_, _<_, min, max}
 use mathlib.Core.Path.{_≡_, refl, sym, ap, ap₂, _∙_}
 use mathlib.Core.Logic.{⊎-elim}
-use native.Mathlib.Nat.{mod-lt, zero-lt-suc, div-eq-of-lt, div-lt-iff-lt-mul, lt-of-lt-of-le, zero-div, pow-suc, pow-succ', mul-le-mul-right, mod-eq-of-lt}
+use native.Mathlib.Nat.{mod-lt, zero-lt-suc, div-eq-of-lt, div-lt-iff-lt-mul, lt-of-lt-of-le, zero-div, pow-suc, pow-succ', mul-le-mul-right, mod-eq-of-lt, mul-one, mul-assoc}
 use native.Mathlib.Numerals.{add-one, one-add}
 use native.Mathlib.Omega.{arith}
 use lib.Pow.{pow-pos, pow-mono, shr-shr, high, low, field, mod-mod-pow, mod-pow-add}
@@ -11,7 +11,7 @@ use lib.Count.{ones, ones-step}
 use Rattle.bits.specs.Sums.{sumBelow, xorBelow}
 use Rattle.bits.specs.Digits.{bit, fromDigits}
 use Rattle.bits.proofs.Cases.{le-or-lt, last-or-below}
-use Rattle.bits.proofs.Sums.{sum-same, sum-cong, sum-first, sum-cut}
+use Rattle.bits.proofs.Sums.{sum-same, sum-cong, sum-first, sum-cut, sum-scale}
 
 pub bit-le : (x a : ℕ) → bit x a ≤ 1
 unfolding bit
@@ -125,6 +125,13 @@ pub from-digits-same : (n : ℕ) (d e : ℕ → ℕ) → ((a : ℕ) → a < n �
 unfolding fromDigits
 from-digits-same n d e h = sum-same n _ _ (λ a l. ap (λ x. x * 2 ^ a) (h a l))
 
+-- the lowest digit, and the others a place up
+pub from-digits-first : (n : ℕ) (d : ℕ → ℕ) → fromDigits (suc n) d ≡ d 0 + fromDigits n (λ a. d (suc a)) * 2
+unfolding fromDigits
+from-digits-first n d =
+    sum-first n (λ a. d a * 2 ^ a)
+    ∙ ap₂ _+_ (mul-one (d 0)) (sum-cong n (λ a. ap (λ x. d (suc a) * x) (pow-suc 2 a) ∙ sym (mul-assoc (d (suc a)) (2 ^ a) 2)) ∙ sum-scale n (λ a. d (suc a) * 2 ^ a) 2)
+
 -- ---- a count of ones
 
 -- a number below 2 ^ k has as many ones as its k digits have
@@ -135,6 +142,16 @@ ones-sum (suc k) n h =
     ones-step n
     ∙ ap₂ _+_ (sym (bit-zero n)) (ones-sum k (n / 2) (omega (arith, pow-suc 2 k)) ∙ sum-cong k (λ a. sym (bit-suc n a)))
     ∙ sym (sum-first k (λ a. bit n a))
+
+-- a number made of digits has as many ones as these have
+pub ones-made : (n : ℕ) (d : ℕ → ℕ) → ((a : ℕ) → a < n → d a < 2) → ones (fromDigits n d) ≡ sumBelow n d
+ones-made n d h = ones-sum n (fromDigits n d) (from-digits-lt n d h) ∙ sum-same n _ d (λ a l. bit-from-digits n d h a l)
+
+-- n ones
+pub all-ones : (n : ℕ) → fromDigits n (λ a. 1) ≡ 2 ^ n - 1
+unfolding fromDigits sumBelow
+all-ones zero = omega arith
+all-ones (suc n) = omega (arith, all-ones n, pow-succ' 2 n, pow-pos n)
 
 self-lt : (n : ℕ) → n < 2 ^ n
 self-lt zero = omega arith

@@ -113,12 +113,15 @@ sum-split n zero f = rw (add-zero n) (sym (add-zero (sumBelow n f)))
 sum-split n (suc m) f = rw (add-suc n m) (omega (arith, sum-split n m f))
 
 -- terms that are zero from w on may be left out
-pub sum-cut : (n w : ℕ) (f : ℕ → ℕ) → w ≤ n → ((q : ℕ) → w ≤ q → f q ≡ 0) → sumBelow n f ≡ sumBelow w f
-sum-cut n w f h z =
+pub sum-cut-within : (n w : ℕ) (f : ℕ → ℕ) → w ≤ n → ((q : ℕ) → w ≤ q → q < n → f q ≡ 0) → sumBelow n f ≡ sumBelow w f
+sum-cut-within n w f h z =
     let e : n ≡ w + (n - w) = omega arith in
     let a = sum-split w (n - w) f in
-    let b = sum-none (n - w) (λ j. f (w + j)) (λ j l. z (w + j) (omega arith)) in
+    let b = sum-none (n - w) (λ j. f (w + j)) (λ j l. z (w + j) (omega arith) (omega arith)) in
     ap (λ i. sumBelow i f) e ∙ omega arith
+
+pub sum-cut : (n w : ℕ) (f : ℕ → ℕ) → w ≤ n → ((q : ℕ) → w ≤ q → f q ≡ 0) → sumBelow n f ≡ sumBelow w f
+sum-cut n w f h z = sum-cut-within n w f h (λ q l below. z q l)
 
 -- from the last term to the first
 pub sum-reverse : (n : ℕ) (f : ℕ → ℕ) → sumBelow (suc n) f ≡ sumBelow (suc n) (λ q. f (n - q))

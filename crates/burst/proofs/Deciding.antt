@@ -1,6 +1,6 @@
 -- The decision: with the frame of time t taken in, the registers decide the errors of time t - m as the rule does, and with these taken out they
 -- are ready for the frame of time t + 1.
-use Prim.Native.Nat.{ℕ, suc, _+_, _-_, _*_, _%_, _^_, _≤_, _<_}
+use Prim.Native.Nat.{ℕ, suc, _+_, _-_, _*_, _%_, _^_, _≤_, _<_, min}
 use mathlib.Core.Path.{_≡_, sym, ap, ap₂, _∙_}
 use mathlib.Core.Bool.{cond}
 use mathlib.Core.Logic.{⊎-elim}
@@ -19,23 +19,36 @@ use Rattle.bits.proofs.Back.{back-in}
 use Rattle.bits.proofs.Cases.{le-or-lt}
 use Rattle.bits.proofs.Digits.{bit-lt, bit-mod, bit-xor, bit-of-zero, from-digits-same, from-digits-bits}
 use Rattle.code.specs.Code.{generator, digit}
+use Rattle.code.specs.Limits.{checkWords}
 use Rattle.code.specs.Guarantees.{Guarantees}
 use Rattle.code.specs.declared.Card.{Card}
 use Rattle.code.proofs.GeneratorSums.{sum-beyond}
 use Rattle.majority.specs.Rule.{cleared, corrected}
 use Rattle.majority.specs.Rule as Rule
 use Rattle.majority.specs.Plain.{decideFrame, decided}
-use Rattle.vote.specs.Voting.{decideBy}
-use Rattle.vote.proofs.Voting.{decide-lt, decide-lt-k, decide-is}
+use Rattle.vote.specs.Voting.{decideByAll}
+use Rattle.vote.specs.Voters.{allVoting, decideVoters}
+use Rattle.vote.proofs.Voting.{decide-lt, decide-all-lt, decide-wider, decide-all-is}
+use Rattle.vote.proofs.WhoVotes.{all-decide}
 use Rattle.majority.proofs.Plain.{decided-length, decided-at}
 use Rattle.majority.proofs.Feedback.{cleared-fed}
-use Rattle.burst.specs.Registers.{Registers, registers, HasSums, takenOut, Corrected, correctedBy}
+use Rattle.burst.specs.Registers.{Registers, registers, HasSums, takenOut, Corrected, NoneFrom, correctedBy}
 use Rattle.burst.specs.Held.{syndromeHeld, Before, With}
 use Rattle.burst.proofs.Following.{sums-bit}
 
 -- four streams at most are decided
-pub decided-small : (counts checks syndromes : List ℕ) (k p : ℕ) {errors : ℕ} → errors ≡ decideBy counts checks syndromes k p → errors < 16
-decided-small counts checks syndromes k p e = rw e (decide-lt counts checks syndromes k p)
+pub decided-small : (words checks syndromes : List ℕ) (k p : ℕ) {errors : ℕ} → errors ≡ decideVoters words checks syndromes k p → errors < 16
+decided-small words checks syndromes k p e = rw e (decide-lt _ _ checks syndromes k p)
+
+-- the errors decided by all checks have a digit for each stream
+pub all-lt : (counts checks syndromes : List ℕ) (k p : ℕ) → k ≤ 4 → decideByAll counts checks syndromes k p < 2 ^ k
+all-lt counts checks syndromes k p h = let e : min k 4 ≡ k = omega arith in rw e at (decide-all-lt counts checks syndromes k p)
+
+-- the vote of all checks, on all eight registers, of which those from the p-th on have no 1
+pub voted-errors : (counts checks syndromes : List ℕ) (k p : ℕ) {errors : ℕ} → p ≤ 8 → length syndromes ≡ 8 → NoneFrom p syndromes
+    → errors ≡ decideVoters (allVoting counts k) checks syndromes k 8 → checkWords ≤ length checks → errors ≡ decideByAll counts checks syndromes k p
+voted-errors counts checks syndromes k p most wide none is long =
+    is ∙ all-decide counts checks syndromes k 8 long (omega arith) ∙ decide-wider counts checks syndromes k p most none
 
 module _ (c : Card) (G : Guarantees c) (frames : List ℕ) (t : ℕ) (r : Registers) (W : With c frames t r) (hm : c .m ≤ t) where
   -- place a has the syndrome of time t - m + a
@@ -53,13 +66,16 @@ module _ (c : Card) (G : Guarantees c) (frames : List ℕ) (t : ℕ) (r : Regist
   held-beyond j a hj ha = W .held-at j a hj ∙ ap (λ b. cond b (syndromeHeld c frames t j a) 0) (lt-leb a (c .m) ha)
 
   -- the registers decide as the rule does
-  decide-then : decideBy (c .counts) (c .checks) (r .syndromes) (c .k) (c .p) ≡ decideFrame c frames (decided c frames (t - c .m)) (t - c .m)
-  decide-then = decide-is c G frames (decided c frames (t - c .m)) (t - c .m) (r .syndromes) held-then held-beyond
+  decide-then : decideByAll (c .counts) (c .checks) (r .syndromes) (c .k) (c .p) ≡ decideFrame c frames (decided c frames (t - c .m)) (t - c .m)
+  decide-then = decide-all-is c G frames (decided c frames (t - c .m)) (t - c .m) (r .syndromes) held-then held-beyond
 
   module _ (sums : List ℕ) (S : HasSums (c .generators) (c .k) (c .p) (2 ^ c .k) sums)
       (after : List ℕ) (errors : ℕ) (C : Corrected sums (c .counts) (c .checks) (r .syndromes) (c .k) (c .p) after errors) where
+    errors-are : errors ≡ decideByAll (c .counts) (c .checks) (r .syndromes) (c .k) (c .p)
+    errors-are = C .errors-are (omega (arith, G .checks-long))
+
     errors-lt : errors < 2 ^ c .k
-    errors-lt = rw (C .errors-are) (decide-lt-k (c .counts) (c .checks) (r .syndromes) (c .k) (c .p) (G .k-most))
+    errors-lt = rw errors-are (all-lt (c .counts) (c .checks) (r .syndromes) (c .k) (c .p) (G .k-most))
 
     -- the generators of the streams in error are taken out, or there is nothing to take out
     fed-bit : (j a : ℕ) → j < c .p → bit (getD after j 0) a ≡ (bit (getD (r .syndromes) j 0) a + sumBelow (c .k) (λ i. generator c i j a * bit errors i)) % 2
@@ -80,7 +96,7 @@ module _ (c : Card) (G : Guarantees c) (frames : List ℕ) (t : ℕ) (r : Regist
 
     -- the errors are those of the rule
     pub errors-is : errors ≡ decideFrame c frames (decided c frames (t - c .m)) (t - c .m)
-    errors-is = C .errors-are ∙ decide-then
+    errors-is = errors-are ∙ decide-then
 
     fed-then : (j a : ℕ) → j < c .p → a < c .m
         → (bit (getD (r .syndromes) j 0) (suc a) + sumBelow (c .k) (λ i. generator c i j (suc a) * bit errors i)) % 2 ≡ syndromeHeld c frames (suc t) j a

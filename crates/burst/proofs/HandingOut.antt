@@ -16,7 +16,7 @@ use Rattle.burst.specs.Registers.{Registers, registers, HasSums, TakenIn
 use Rattle.burst.specs.Held.{Before, With, Tables, cardWith, Carried, Handing, HandedOut, AllHandedOut, AllHandedFrom}
 use Rattle.burst.proofs.Following.{taken-in}
 use Rattle.burst.proofs.Waiting.{start}
-use Rattle.burst.proofs.Deciding.{decided-small, fed-back, handed-out}
+use Rattle.burst.proofs.Deciding.{fed-back, handed-out}
 
 -- no register that was written has a 1
 pub none-written : {sums : List ℕ} {k p m f held : ℕ} {before after : Registers} → TakenIn sums k p m f before after held
@@ -34,9 +34,6 @@ module _ {sums counts checks syndromes after : List ℕ} {k p errors : ℕ} (C :
   after-none z j l =
       ⊎-elim (λ (w : (errors ≡ 0) × (after ≡ syndromes)). ap (λ y. getD y j 0) (w .1) ∙ z j l)
       (λ w. ap (λ y. getD y j 0) w ∙ part-rest (takenOut sums syndromes errors) syndromes p j l ∙ z j l) (C .after-is)
-
-  pub errors-small : errors < 16
-  errors-small = decided-small counts checks syndromes k p (C .errors-are)
 
 -- one frame more, and the frame m before it handed out
 module _ (c : Card) (G : Guarantees c) (sums : List ℕ) (S : HasSums (c .generators) (c .k) (c .p) (2 ^ c .k) sums) (frames : List ℕ) where

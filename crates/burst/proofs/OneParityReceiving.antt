@@ -20,16 +20,18 @@ use Rattle.bits.proofs.Cases.{cond-le}
 use Rattle.bits.proofs.Digits.{bit-zero, bit-xor, digits-lt, from-digits-lt, ones-sum}
 use Rattle.bits.proofs.Words.{shift-digit}
 use Rattle.code.specs.Checks.{count}
+use Rattle.code.specs.Limits.{mostChecks}
 use Rattle.code.specs.Guarantees.{Guarantees}
 use Rattle.code.specs.declared.Card.{Card}
 use Rattle.code.proofs.GeneratorSums.{sum-within}
 use Rattle.majority.specs.Plain.{decoded}
-use Rattle.vote.specs.Voting.{decideBy}
-use Rattle.ballot.specs.Ballot.{votesSorted, decideSorted}
-use Rattle.vote.proofs.Voting.{decide-lt-k, decide-none}
-use Rattle.ballot.proofs.FewOnes.{decide-few}
+use Rattle.vote.specs.Voting.{decideByAll}
+use Rattle.burst_vote.specs.Sorted.{votesSorted, decideSorted}
+use Rattle.vote.proofs.Voting.{decide-all-none}
+use Rattle.burst_vote.proofs.FewOnes.{decide-few}
 use Rattle.burst.specs.Parts.{cardFrom, EveryCard}
 use Rattle.burst.specs.Held.{tables, Handing, AllHandedOut}
+use Rattle.burst.proofs.Deciding.{all-lt}
 use Rattle.burst.proofs.HandingOut.{hand-turn}
 use Rattle.burst.specs.Registers.{registers, HasSums, parityWith, comingNext, syndromesNext, TakenIn, takenOut, Corrected, correctedBy, AtLeast, AllWithin, inOne, putOf, HasPuts}
 
@@ -175,7 +177,7 @@ pub sorted-small : (counts alone several left : List ℕ) (word k : ℕ) {errors
 unfolding decideSorted
 sorted-small counts alone several left word k e =
     rw e
-    (lt-of-lt-of-le (from-digits-lt (min k 4) _ (λ i l. let w = cond-le (ltb (min (getD counts i 0) 16) (2 * votesSorted alone several left i word)) 1 0 1 (omega arith) (omega arith) in omega (arith, w)))
+    (lt-of-lt-of-le (from-digits-lt (min k 4) _ (λ i l. let w = cond-le (ltb (min (getD counts i 0) mostChecks) (2 * votesSorted alone several left i word)) 1 0 1 (omega arith) (omega arith) in omega (arith, w)))
     (pow-mono {i = min k 4} {j = 4} (omega arith)))
 
 module _ (number : ℕ) (g counts checks : List ℕ) (k m : ℕ) (G : Guarantees (cardFrom number g counts checks k 1 m))
@@ -191,22 +193,23 @@ module _ (number : ℕ) (g counts checks : List ℕ) (k m : ℕ) (G : Guarantees
       ∙ xor-zero-r _
 
   -- the syndromes that the next word holds are those of this one without the errors, and the parity digits to come are the same
-  fed-into : (puts : List ℕ) → HasPuts sums k m (2 ^ (k + 1)) puts → {word next errors : ℕ} → errors ≡ decideBy counts checks (inOne m word .syndromes) k 1
+  fed-into : (puts : List ℕ) → HasPuts sums k m (2 ^ (k + 1)) puts → {word next errors : ℕ} → errors ≡ decideByAll counts checks (inOne m word .syndromes) k 1
       → ((errors ≡ 0) × (next ≡ word)) ⊎ (next ≡ bitXor word (getD puts errors 0 / 2 ^ m))
       → (next / 2 ^ (m + 1) ≡ word / 2 ^ (m + 1)) × Corrected sums counts checks (inOne m word .syndromes) k 1 (inOne m next .syndromes) errors
   unfolding takenOut upTo
   fed-into puts P {word} {next} {errors} e (inl w) = (
     ap (λ x. x / 2 ^ (m + 1)) (w .1),
-    record { errors-are = e; after-is = inl (w .0, ap (λ x. x % 2 ^ (m + 1) ∷ replicate 7 0) (w .1)) },
+    record { errors-are = λ long. e; errors-lt = omega (arith, w .0); after-is = inl (w .0, ap (λ x. x % 2 ^ (m + 1) ∷ replicate 7 0) (w .1)) },
   )
   fed-into puts P {word} {next} {errors} e (inr w) =
       let s = getD sums (errors * 8) 0 in
-      let small : errors < 2 ^ k = rw e (decide-lt-k counts checks (inOne m word .syndromes) k 1 (G .k-most)) in
+      let small : errors < 2 ^ k = rw e (all-lt counts checks (inOne m word .syndromes) k 1 (G .k-most)) in
       let l : s < 2 ^ (m + 1) = sums-within (cardFrom number g counts checks k 1 m) G sums S errors small in
       let w' : next ≡ bitXor word s = w ∙ ap (bitXor word) (errors-out puts P errors small) in (
         ap (λ x. x / 2 ^ (m + 1)) w' ∙ above-same word s m l,
         record {
-          errors-are = e;
+          errors-are = λ long. e;
+          errors-lt = lt-of-lt-of-le small (pow-mono {i = k} {j = 4} (G .k-most));
           after-is = inr (ap (λ x. x ∷ replicate 7 0)
               (ap (λ x. x % 2 ^ (m + 1)) w' ∙ within-taken word s m l ∙ ap (λ n. bitXor (word % 2 ^ (m + 1)) (getD sums n 0)) (sym (add-zero (errors * 8)))));
         },
@@ -216,7 +219,7 @@ module _ (number : ℕ) (g counts checks : List ℕ) (k m : ℕ) (G : Guarantees
     pub word-turn : (u v word : ℕ) (output₀ : List ℕ) {taken next errors : ℕ} {output : List ℕ}
         → u + m < length frames → length frames ≤ length output₀ + m
         → taken ≡ bitXor (word / 2) (getD puts (getD frames (u + m) 0) 0)
-        → errors ≡ decideBy counts checks (inOne m taken .syndromes) k 1
+        → errors ≡ decideByAll counts checks (inOne m taken .syndromes) k 1
         → ((errors ≡ 0) × (next ≡ taken)) ⊎ (next ≡ bitXor taken (getD puts errors 0 / 2 ^ m))
         → v ≡ correctedBy (getD frames u 0) k errors
         → Handing (cardFrom number g counts checks k 1 m) frames output₀ u (inOne m word) output
@@ -238,12 +241,12 @@ module _ (number : ℕ) (g counts checks : List ℕ) (k m : ℕ) (G : Guarantees
         → Handing (cardFrom number g counts checks k 1 m) frames output₀ (u + 1) (inOne m next) (set output u v)
     word-through u v word output₀ {next} ht ho e z q handing =
         word-turn u v word output₀ ht ho e
-        (sym (decide-none counts checks (inOne m next .syndromes) k 1 (λ j l. let n : j ≡ 0 = omega arith in ap (λ i. getD (inOne m next .syndromes) i 0) n ∙ z)))
+        (sym (decide-all-none counts checks (inOne m next .syndromes) k 1 (λ j l. let n : j ≡ 0 = omega arith in ap (λ i. getD (inOne m next .syndromes) i 0) n ∙ z)))
         (inl (refl, refl)) q handing
 
 -- nothing either while too few syndromes are 1
 pub few-held : (number : ℕ) (g counts checks : List ℕ) (k m : ℕ) → Guarantees (cardFrom number g counts checks k 1 m)
-    → (held least : ℕ) → held < 2 ^ 32 → AtLeast counts k least → 2 * ones held ≤ least → decideBy counts checks (held ∷ replicate 7 0) k 1 ≡ 0
+    → (held least : ℕ) → held < 2 ^ 32 → AtLeast counts k least → 2 * ones held ≤ least → decideByAll counts checks (held ∷ replicate 7 0) k 1 ≡ 0
 unfolding sumBelow count
 few-held number g counts checks k m G held least hh counted few =
     decide-few (cardFrom number g counts checks k 1 m) G (held ∷ replicate 7 0) (λ i l. omega (arith, few, counted i l, ones-sum 32 held hh))

@@ -5,13 +5,13 @@ use mathlib.Core.List.{List}
 use native.Mathlib.Nat.{le-refl, zero-mod}
 use native.Mathlib.Numerals.{add-one}
 use native.Mathlib.Omega.{arith}
-use lib.ListN.{length, getD, drop, set, length-append, length-drop, List·getD-eq-default}
+use lib.ListN.{length, getD, set, List·getD-eq-default}
 use lib.Bits.{bitXor, xor-zero-r}
 use borrow.Author.Tests.{lt-ltb, le-ltb}
 use Rattle.bits.specs.Sums.{upTo}
 use Rattle.bits.specs.Digits.{bit, fromDigits}
 use Rattle.bits.proofs.Sums.{sum-step}
-use Rattle.bits.proofs.Lists.{zeros-after, upTo-length, part-step}
+use Rattle.bits.proofs.Lists.{zeros-after, part-step}
 use Rattle.bits.proofs.Digits.{bit-of-zero, from-digits-same, from-digits-bits}
 use Rattle.code.specs.Code.{digit, parityAt, withTail, sentDigit, sentFrame}
 use Rattle.code.specs.Guarantees.{Guarantees}
@@ -20,6 +20,7 @@ use Rattle.code.specs.declared.Card.{Card}
 use Rattle.code.proofs.GeneratorSums.{sum-of-none}
 use Rattle.burst.specs.Sent.{SentSoFar}
 use Rattle.burst.proofs.Coming.{coming-start, register-parity, register-next}
+use Rattle.burst.proofs.Sending.{within}
 
 -- a frame of one parity stream: the information digits, and above them the parity
 frame-is : (c : Card) → c .p ≡ 1 → (frames : List ℕ) (t : ℕ) {f parity : ℕ} → f ≡ getD frames t 0 → parity ≡ parityAt c frames 0 t
@@ -41,11 +42,6 @@ module _ (c : Card) (G : Guarantees c) (one : c .p ≡ 1) (input output₀ : Lis
   unfolding upTo
   sent-start = record { coming-at = λ a. bit-of-zero a ∙ sym (coming-start c (withTail c input) 0 a); output-is = refl }
 
-  -- a frame within the output is within what it was
-  within : {t coming : ℕ} {output : List ℕ} → SentSoFar c input output₀ t coming output → t < length output → t < length output₀
-  within {t} S l =
-      omega (arith, ap length (S .output-is), length-append (upTo t (sentFrame c (withTail c input))) (drop t output₀), upTo-length t (sentFrame c (withTail c input)), length-drop t output₀)
-
   -- the frame that is sent for the information frame f
   pub information-turn : {t f sum coming x : ℕ} {output : List ℕ} → t < length output → f ≡ getD input t 0
       → sum ≡ generatorSum (c .generators) (c .k) (f % 2 ^ c .k) 0 → x ≡ f % 2 ^ c .k + bitXor coming sum % 2 * 2 ^ c .k
@@ -56,7 +52,7 @@ module _ (c : Card) (G : Guarantees c) (one : c .p ≡ 1) (input output₀ : Lis
       let now : f ≡ getD frames t 0 = hf ∙ sym (zeros-after input (c .m) t) in
       record {
         coming-at = rw add-one (register-next c G frames t f 0 (G .p-least) coming sum now hs (S .coming-at));
-        output-is = part-step (sentFrame c frames) output₀ t output x (within S l) (S .output-is)
+        output-is = part-step (sentFrame c frames) output₀ t output x (within c input output₀ (S .output-is) l) (S .output-is)
             (hx ∙ frame-is c one frames t now (register-parity c G frames t f 0 (G .p-least) coming sum now hs (S .coming-at)));
       }
 

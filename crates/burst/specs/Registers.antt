@@ -9,8 +9,9 @@ use lib.ListN.{length, getD, drop, replicate}
 use lib.Bits.{bitXor}
 use Rattle.bits.specs.Sums.{upTo}
 use Rattle.bits.specs.Digits.{shiftUp}
+use Rattle.code.specs.Limits.{checkWords}
 use Rattle.code.specs.Registers.{generatorSum}
-use Rattle.vote.specs.Voting.{decideBy}
+use Rattle.vote.specs.Voting.{decideByAll}
 
 -- the registers of the parity streams: the parity digits to come, and the syndromes held
 pub record Registers : Type 0 where
@@ -55,9 +56,10 @@ pub record TakenIn (sums : List ℕ) (k p m f : ℕ) (before after : Registers) 
 unfoldable pub takenOut : List ℕ → List ℕ → ℕ → ℕ → ℕ
 takenOut sums syndromes e j = bitXor (getD syndromes j 0) (getD sums (e * 8 + j) 0)
 
--- the errors decided, and the registers after them: as they were if there are none, else with the errors taken out
+-- the errors decided, if the table of checks is whole, and the registers after them: as they were if there are none, else with the errors taken out
 pub record Corrected (sums counts checks syndromes : List ℕ) (k p : ℕ) (after : List ℕ) (errors : ℕ) : Type 0 where
-  pub errors-are : errors ≡ decideBy counts checks syndromes k p
+  pub errors-are : checkWords ≤ length checks → errors ≡ decideByAll counts checks syndromes k p
+  pub errors-lt : errors < 16
   pub after-is : ((errors ≡ 0) × (after ≡ syndromes)) ⊎ (after ≡ written p (takenOut sums syndromes errors) syndromes)
 
 -- no register from the p-th on has a 1

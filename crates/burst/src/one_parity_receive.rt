@@ -8,14 +8,17 @@ ghost use Prim.Native.Nat.{ℕ, _+_, _*_, _/_, _%_, _^_, _<_, _≤_};
 ghost use lib.Bits.{bitXor};
 ghost use lib.ListN.{length, getD, replicate};
 ghost use Rattle.code.specs.Guarantees.{Guarantees};
-ghost use Rattle.vote.specs.Voting.{decideBy};
-ghost use Rattle.ballot.specs.Ballot.{Sorted};
+ghost use Rattle.vote.specs.Voting.{decideByAll};
+ghost use Rattle.burst_vote.specs.Sorted.{Sorted};
 ghost use Rattle.burst.specs.Parts.{cardFrom};
 ghost use Rattle.burst.specs.Registers.{AtLeast, AllWithin, inOne, putOf, HasPuts};
 ghost use Rattle.burst.specs.Held.{tables, Carried, HandedOut, AllHandedOut, AllHandedFrom, EveryTables, TakenNext};
 use crate::registers::corrected;
-use ballot::decide_sorted;
-use ballot::sorted;
+use burst_vote::SEVERAL_WORDS;
+use burst_vote::decide_sorted;
+use burst_vote::sorted;
+use code::CHECK_WORDS;
+use code::MOST_CHECKS;
 
 // A short word as a long one.
 fn long(x: u32) -> u64
@@ -91,15 +94,15 @@ fn fill(puts: &[u64; 32], k: usize, m: usize, input: &[u8]) -> u64
 
 // The least number of checks that a stream has; 0 where no stream has checks of several syndromes, since a vote is then no dearer than to count the
 // syndromes that are 1.
-fn least_checks<'a>(counts: &'a [usize; 4], left: &'a [usize; 4], k: usize) -> usize
+fn least_checks<'a>(counts: &'a [u32; 4], left: &'a [usize; 4], k: usize) -> usize
     requires { ⌜ k ≤ 4 ⌝ }
     ensures { λ r. ⌜ AtLeast (now (counts .entry)) k r ⌝ }
 {
-    let mut least: usize = 16;
+    let mut least: usize = MOST_CHECKS;
     let mut dear = false;
     let mut i = 0;
     while i < k {
-        least = bits::at_most(counts[i], least);
+        least = bits::at_most(bits::index(counts[i]), least);
         dear = dear || 0 < left[i];
         i += 1;
     }
@@ -111,16 +114,16 @@ fn least_checks<'a>(counts: &'a [usize; 4], left: &'a [usize; 4], k: usize) -> u
 fn voted<'a>(
     held: u32,
     least: usize,
-    counts: &'a [usize; 4],
+    counts: &'a [u32; 4],
     alone: &'a [u32; 4],
-    several: &'a [u32; 64],
+    several: &'a [u32; SEVERAL_WORDS],
     left: &'a [usize; 4],
     k: usize,
 ) -> u32
     ensures { λ r. ⌜ r < 16 ⌝ }
     ensures { λ r. ⌜ ((number m : ℕ) (generators checks : List ℕ) → Guarantees (cardFrom number generators (now (counts .entry)) checks k 1 m)
         → Sorted (now (counts .entry)) checks k (now (alone .entry)) (now (several .entry)) (now (left .entry)) → AtLeast (now (counts .entry)) k least
-        → r ≡ decideBy (now (counts .entry)) checks (held ∷ replicate 7 0) k 1) ⌝ }
+        → r ≡ decideByAll (now (counts .entry)) checks (held ∷ replicate 7 0) k 1) ⌝ }
 {
     if 0 < least {
         if 2 * bits::index(u32::count_ones(held)) <= least {
@@ -171,9 +174,9 @@ fn hand_corrected<'a>(
     word: u64,
     puts: &[u64; 32],
     least: usize,
-    counts: &'a [usize; 4],
+    counts: &'a [u32; 4],
     alone: &'a [u32; 4],
-    several: &'a [u32; 64],
+    several: &'a [u32; SEVERAL_WORDS],
     left: &'a [usize; 4],
     k: usize,
     m: usize,
@@ -197,9 +200,9 @@ fn hand_out<'a>(
     filled: u64,
     puts: &[u64; 32],
     least: usize,
-    counts: &'a [usize; 4],
+    counts: &'a [u32; 4],
     alone: &'a [u32; 4],
-    several: &'a [u32; 64],
+    several: &'a [u32; SEVERAL_WORDS],
     left: &'a [usize; 4],
     k: usize,
     m: usize,
@@ -242,8 +245,8 @@ fn hand_out<'a>(
 // A whole burst of m frames or more.
 pub(crate) fn receive<'a>(
     sums: &[u32; 128],
-    counts: &'a [usize; 4],
-    checks: &'a [u32; 512],
+    counts: &'a [u32; 4],
+    checks: &'a [u32; CHECK_WORDS],
     k: usize,
     m: usize,
     input: &[u8],

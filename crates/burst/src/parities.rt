@@ -8,6 +8,7 @@ ghost use Rattle.burst.specs.Held.{tables, Carried, AllHandedOut, AllHan
 use crate::registers::correct;
 use crate::registers::corrected;
 use crate::registers::take_in;
+use code::CHECK_WORDS;
 
 // The first m frames, for which nothing is handed out.
 fn fill(
@@ -37,8 +38,8 @@ fn hand_out<'a>(
     syndromes: &mut [u32; 8],
     coming: &mut [u32; 8],
     sums: &[u32; 128],
-    counts: &'a [usize; 4],
-    checks: &'a [u32; 512],
+    counts: &'a [u32; 4],
+    checks: &'a [u32; CHECK_WORDS],
     k: usize,
     p: usize,
     m: usize,
@@ -64,8 +65,8 @@ fn hand_out<'a>(
 // A whole burst of m frames or more.
 pub(crate) fn receive<'a>(
     sums: &[u32; 128],
-    counts: &'a [usize; 4],
-    checks: &'a [u32; 512],
+    counts: &'a [u32; 4],
+    checks: &'a [u32; CHECK_WORDS],
     k: usize,
     p: usize,
     m: usize,

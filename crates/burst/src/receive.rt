@@ -16,6 +16,7 @@ use crate::registers::generator_sums;
 use card::CardRule;
 use card::Refusal;
 use card::Verdict;
+use code::CHECK_WORDS;
 use code::MOST_FRAMES;
 use outcomes::answer::counted;
 use outcomes::answer::refused;
@@ -23,8 +24,8 @@ use outcomes::answer::refused;
 // The frames that the rule hands out for a burst under a card with these tables.
 fn receive_frames<'a>(
     generators: &'a [u32; 32],
-    counts: &'a [usize; 4],
-    checks: &'a [u32; 512],
+    counts: &'a [u32; 4],
+    checks: &'a [u32; CHECK_WORDS],
     k: usize,
     p: usize,
     m: usize,
@@ -57,8 +58,8 @@ fn after_first(received: usize, m: usize) -> usize
 // A burst under an accepted card with these tables, which are lent: a card is large. Every frame is tested before a byte is written.
 fn receive_under<'a>(
     generators: &'a [u32; 32],
-    counts: &'a [usize; 4],
-    checks: &'a [u32; 512],
+    counts: &'a [u32; 4],
+    checks: &'a [u32; CHECK_WORDS],
     k: usize,
     p: usize,
     m: usize,

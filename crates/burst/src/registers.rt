@@ -7,6 +7,7 @@ ghost use lib.ListN.{getD, length};
 ghost use lib.Bits.{bitXor};
 ghost use Rattle.bits.specs.Digits.{shiftUp};
 ghost use Rattle.burst.specs.Registers.{registers, HasSums, HasStreamSums, TakenIn, written, takenOut, Corrected, NoneFrom, correctedBy};
+use code::CHECK_WORDS;
 
 // Streams 1 to k of a frame.
 pub(crate) fn information(frame: u8, k: usize) -> u32
@@ -118,8 +119,8 @@ pub(crate) fn correct<'a>(
     syndromes: &mut [u32; 8],
     held: u32,
     sums: &[u32; 128],
-    counts: &'a [usize; 4],
-    checks: &'a [u32; 512],
+    counts: &'a [u32; 4],
+    checks: &'a [u32; CHECK_WORDS],
     k: usize,
     p: usize,
 ) -> u32
@@ -130,7 +131,7 @@ pub(crate) fn correct<'a>(
     if held == 0 {
         return 0;
     }
-    let errors = vote::decide(counts, checks, syndromes, k, 8);
+    let errors = vote::decide_all(counts, checks, syndromes, k, 8);
     if errors != 0 {
         take_out(syndromes, sums, p, errors);
     }

@@ -11,7 +11,7 @@ use Rattle.code.specs.Guarantees.{Guarantees}
 use Rattle.card.specs.Fields.{Fields, cardOf}
 use Rattle.card.specs.Reading.{readFields, answer, readUnder, readCard}
 use Rattle.card.specs.Reading.Read.{got}
-use Rattle.card.specs.Layout.{layout, Acceptable}
+use Rattle.card.specs.Layout.{layout, longestCard, Acceptable}
 use Rattle.card.specs.Promise.{EqualCards, CardPromise}
 use Rattle.card.specs.declared.CardRead.{CardRead}
 use Rattle.card.specs.declared.CardRule.{CardRule}
@@ -38,7 +38,7 @@ module _ (rule : CardRule) (bs : List ℕ) where
       let a = accepted-read rule bs e in
       (a .0, read-acceptable (a .0) (a .1) (a .2) (read-laid bs bytes rule (a .0) (a .1) (a .2)), a .3)
 
-  pub accepted-length : ((i : ℕ) → getD bs i 0 < 256) → readUnder rule bs .outcome ≡ accepted → length bs ≤ 1163
+  pub accepted-length : ((i : ℕ) → getD bs i 0 < 256) → readUnder rule bs .outcome ≡ accepted → length bs ≤ longestCard
   accepted-length bytes e =
       let a = accepted-fields bytes e in
       let l = layout-length (a .0) (a .1 .limits .ranges) in

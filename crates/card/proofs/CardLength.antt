@@ -1,4 +1,4 @@
--- No card within the limits has more than 1,163 bytes.
+-- No card within the limits has more bytes than the longest.
 use Prim.Native.Nat.{ℕ, zero, suc, _+_, _-_, _*_, _≤_}
 use mathlib.Core.Path.{_≡_, ap}
 use mathlib.Core.Bool.{cond}
@@ -10,8 +10,9 @@ use lib.ListN.{length, length-append}
 use lib.Dec.{eqb}
 use borrow.Author.Tests.{eq-eqb, ne-eqb}
 use Rattle.bits.proofs.Cases.{same-or-not}
+use Rattle.code.specs.Limits.{mostChecks}
 use Rattle.card.specs.Fields.{Head, Stream, Fields}
-use Rattle.card.specs.Layout.{bytes4, layoutMasks, optional, layoutHead, allRows, layoutRows, layoutChecks, layoutStreams, layout, AllMasksIn, AllStreamsIn, InRanges}
+use Rattle.card.specs.Layout.{bytes4, layoutMasks, optional, layoutHead, allRows, layoutRows, layoutChecks, layoutStreams, layout, AllMasksIn, AllStreamsIn, InRanges, longestCard}
 use Rattle.card.proofs.LayoutLaws.{rows-long}
 
 pub mask-length : (v : ℕ) → length (cond (eqb v 0) [] (bytes4 v)) ≤ 4
@@ -37,7 +38,7 @@ checks-length p m (vs ∷ checks) a =
     let l = a .0 .many in
     omega arith
 
-streams-length : (p m : ℕ) (streams : List Stream) → AllStreamsIn p m streams → length (layoutStreams streams) ≤ length streams * (17 + 64 * p)
+streams-length : (p m : ℕ) (streams : List Stream) → AllStreamsIn p m streams → length (layoutStreams streams) ≤ length streams * (1 + mostChecks * (1 + 4 * p))
 unfolding layoutStreams
 streams-length p m [] a = omega arith
 streams-length p m (s ∷ streams) a =
@@ -46,7 +47,7 @@ streams-length p m (s ∷ streams) a =
     let k = checks-length p m (s .checks) (a .0 .masks) in
     let many = a .0 .many in
     let most = a .0 .J-most in
-    let c : length (s .checks) * (1 + 4 * p) ≤ 16 * (1 + 4 * p) = mul-le-mul-right (1 + 4 * p) (omega arith) in
+    let c : length (s .checks) * (1 + 4 * p) ≤ mostChecks * (1 + 4 * p) = mul-le-mul-right (1 + 4 * p) (omega arith) in
     omega arith
 
 pub optional-length : (d v : ℕ) → length (optional d v) ≤ 1
@@ -72,10 +73,10 @@ few-generators (suc (suc (suc (suc zero)))) p h l = omega arith
 few-generators (suc (suc (suc (suc (suc k))))) p h l = absurd (omega arith)
 
 -- the head x, the generators' masks y, the checks z
-sum-up : (k p x y z : ℕ) → k ≤ 4 → k * p ≤ 16 → x ≤ 5 → y ≤ 4 * (k * p) → z ≤ k * (17 + 64 * p) → {t u : ℕ} → t ≡ x + suc (suc u) → u ≡ y + z → t ≤ 1163
+sum-up : (k p x y z : ℕ) → k ≤ 4 → k * p ≤ 16 → x ≤ 5 → y ≤ 4 * (k * p) → z ≤ k * (1 + mostChecks * (1 + 4 * p)) → {t u : ℕ} → t ≡ x + suc (suc u) → u ≡ y + z → t ≤ longestCard
 sum-up k p x y z h e a b c q r = omega arith
 
-pub layout-length : (f : Fields) → InRanges f → length (layout f) ≤ 1163
+pub layout-length : (f : Fields) → InRanges f → length (layout f) ≤ longestCard
 unfolding layout layoutRows
 layout-length f w =
     let k = f .head .k in
@@ -87,7 +88,7 @@ layout-length f w =
     let r₁ = rows-long p (f .head .m) (f .rows) (w .rows-in) in
     let r₂ : length (f .rows) * p ≡ k * p = ap (λ x. x * p) (w .row-count) in
     let s = streams-length p (f .head .m) (f .streams) (w .streams-in) in
-    let s₁ : length (f .streams) * (17 + 64 * p) ≡ k * (17 + 64 * p) = ap (λ x. x * (17 + 64 * p)) (w .stream-count) in
+    let s₁ : length (f .streams) * (1 + mostChecks * (1 + 4 * p)) ≡ k * (1 + mostChecks * (1 + 4 * p)) = ap (λ x. x * (1 + mostChecks * (1 + 4 * p))) (w .stream-count) in
     sum-up k p (length (layoutHead (f .head))) (length (layoutMasks (allRows (f .rows)))) (length (layoutStreams (f .streams))) (w .k-most) few
     (head-length (f .head)) (omega arith) (omega arith)
     (length-append (layoutHead (f .head)) (layoutRows (f .rows) ++ layoutStreams (f .streams)))

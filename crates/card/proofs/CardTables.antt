@@ -5,6 +5,7 @@ use mathlib.Core.List.{List, [], _∷_}
 use native.Mathlib.Omega.{arith}
 use lib.ListN.{length, getD, List·getD-eq-default}
 use lib.Pow.{pow-pos}
+use Rattle.code.specs.Limits.{mostChecks}
 use Rattle.code.specs.Checks.{count, checkMask}
 use Rattle.card.specs.Fields.{Stream, Fields, cardOf}
 use Rattle.card.specs.Layout.{AllMasksIn, AllStreamsIn, InRanges}
@@ -25,7 +26,7 @@ module _ (p m : ℕ) where
   -- at every place, also beyond the streams
   stream-any : (streams : List Stream) → AllStreamsIn p m streams → (i : ℕ)
       → (length (getD streams i noStream .checks) ≡ getD streams i noStream .count)
-      × (getD streams i noStream .count ≤ 16)
+      × (getD streams i noStream .count ≤ mostChecks)
       × AllMasksIn p m (getD streams i noStream .checks)
   stream-any [] a i = (refl, omega arith, tt)
   stream-any (s ∷ streams) a zero = (a .0 .many, a .0 .J-most, a .0 .masks)
@@ -55,12 +56,12 @@ module _ (f : Fields) (w : InRanges f) where
   unfolding count cardOf
   count-stated i = count-at (f .streams) few-streams i
 
-  pub mask-stated : (i q j : ℕ) → q < 16 → j < 8 → checkMask (cardOf f) i q j ≡ getD (getD (streamOf f i .checks) q []) j 0
+  pub mask-stated : (i q j : ℕ) → q < mostChecks → j < 8 → checkMask (cardOf f) i q j ≡ getD (getD (streamOf f i .checks) q []) j 0
   unfolding checkMask cardOf
   mask-stated i q j h k = check-at (f .head .n - f .head .k) (f .head .m) p-most (f .streams) (w .streams-in) few-streams i q j h k
 
   pub stream-stated : (i : ℕ)
       → (length (streamOf f i .checks) ≡ streamOf f i .count)
-      × (streamOf f i .count ≤ 16)
+      × (streamOf f i .count ≤ mostChecks)
       × AllMasksIn (f .head .n - f .head .k) (f .head .m) (streamOf f i .checks)
   stream-stated i = stream-any (f .head .n - f .head .k) (f .head .m) (f .streams) (w .streams-in) i

@@ -10,6 +10,7 @@ use lib.Pow.{pow-pos}
 use lib.Seq.{getD-set-same, getD-set-other}
 use Rattle.bits.proofs.Cases.{same-or-not}
 use Rattle.bits.proofs.Lists.{zeros-at, snoc-last, snoc-other}
+use Rattle.code.specs.Limits.{mostChecks, checkStride, checkWords, checkStart}
 use Rattle.orthogonal.specs.Pass.{Passed, wordCode, informationStreams, parityStreams, firstMasks}
 use Rattle.card.specs.Reading.{Read, mapRead, byteField, standingMask, judgeAfter, readStreams}
 use Rattle.card.specs.Reading.Field.{value, bad}
@@ -37,7 +38,7 @@ pub record AtStreams (bs : List ℕ) (c : Card) (r : Read Tables) (verdict : Ver
   pub stream-most : i ≤ c .k
   pub inside : at ≤ length bs
   pub long-counts : length counts ≡ 4
-  pub long-checks : length checks ≡ 512
+  pub long-checks : length checks ≡ checkWords
   pub unbroken : verdict ≡ Accepted
   pub same : restStreams bs c i counts checks at ≡ r
 
@@ -47,10 +48,10 @@ pub record AtChecks (bs : List ℕ) (c : Card) (r : Read Tables) (i count : ℕ)
   pub limits : Limits c
   pub stream-lt : i < c .k
   pub check-most : q ≤ count
-  pub count-most : count ≤ 16
+  pub count-most : count ≤ mostChecks
   pub inside : at ≤ length bs
   pub long-counts : length counts ≡ 4
-  pub long-checks : length checks ≡ 512
+  pub long-checks : length checks ≡ checkWords
   pub unbroken : verdict ≡ Accepted
   pub earlier : List (List ℕ)
   pub union : Union c earlier touched
@@ -69,10 +70,10 @@ pub record AtMasks (bs : List ℕ) (c : Card) (r : Read Tables) (i count : ℕ) 
   pub stream-lt : i < c .k
   pub check-lt : q < count
   pub mask-most : j ≤ c .p
-  pub count-most : count ≤ 16
+  pub count-most : count ≤ mostChecks
   pub inside : at ≤ length bs
   pub long-counts : length counts ≡ 4
-  pub long-checks : length checks ≡ 512
+  pub long-checks : length checks ≡ checkWords
   pub long-masks : length masks ≡ 8
   pub unbroken : verdict ≡ Accepted
   pub earlier : List (List ℕ)
@@ -89,14 +90,14 @@ pub record Place (i q j : ℕ) : Type 0 where
   pub next-fits : j + 1 < 2 ^ 64
   pub mask-lt : j < 8
   pub mask-fits : j * 4 < 2 ^ 64
-  pub stream-fits : i * 128 < 2 ^ 64
+  pub stream-fits : i * checkStride < 2 ^ 64
   pub check-fits : q * 8 < 2 ^ 64
-  pub row-fits : i * 128 + q * 8 < 2 ^ 64
-  pub slot-lt : i * 128 + q * 8 + j < 512
-  pub slot-fits : i * 128 + q * 8 + j < 2 ^ 64
-  pub bytes-fit : (i * 128 + q * 8 + j) * 4 < 2 ^ 64
+  pub row-fits : checkStart i q < 2 ^ 64
+  pub slot-lt : checkStart i q + j < checkWords
+  pub slot-fits : checkStart i q + j < 2 ^ 64
+  pub bytes-fit : (checkStart i q + j) * 4 < 2 ^ 64
 
-place : {i k q count j p : ℕ} → i < k → k ≤ 4 → q < count → count ≤ 16 → j < p → p ≤ 7 → Place i q j
+place : {i k q count j p : ℕ} → i < k → k ≤ 4 → q < count → count ≤ mostChecks → j < p → p ≤ 7 → Place i q j
 place hi hk hq hn hj hp =
     record {
       next-fits = omega arith;
@@ -146,8 +147,8 @@ seen-more {m} {masks} {j} {seen} {v} l h s =
     }
 
 -- ---- the turns, faults and ends
-pub streams-begin : (bs : List ℕ) (c : Card) (start : ℕ) {counts checks : List ℕ} → Limits c → start ≤ length bs → counts ≡ replicate 4 0 → checks ≡ replicate 512 0
-    → AtStreams bs c (mapRead (tablesWith 0 (replicate 4 0) (replicate 512 0)) (readStreams bs c (c .k) 0 start)) Accepted counts checks start 0
+pub streams-begin : (bs : List ℕ) (c : Card) (start : ℕ) {counts checks : List ℕ} → Limits c → start ≤ length bs → counts ≡ replicate 4 0 → checks ≡ replicate checkWords 0
+    → AtStreams bs c (mapRead (tablesWith 0 (replicate 4 0) (replicate checkWords 0)) (readStreams bs c (c .k) 0 start)) Accepted counts checks start 0
 streams-begin bs c start l h e q =
     record {
       limits = l;
@@ -156,11 +157,11 @@ streams-begin bs c start l h e q =
       long-counts = ap length e;
       long-checks = ap length q;
       unbroken = refl;
-      same = ap₂ (λ x y. restStreams bs c 0 x y start) e q ∙ streams-start bs c (replicate 4 0) (replicate 512 0) start;
+      same = ap₂ (λ x y. restStreams bs c 0 x y start) e q ∙ streams-start bs c (replicate 4 0) (replicate checkWords 0) start;
     }
 
 module _ {bs : List ℕ} {c : Card} {r : Read Tables} {verdict : Verdict} {counts checks : List ℕ} {at i : ℕ} where
-  pub checks-begin : {count : ℕ} → AtStreams bs c r verdict counts checks at i → i < c .k → byteField bs at 1 16 7 ≡ value count
+  pub checks-begin : {count : ℕ} → AtStreams bs c r verdict counts checks at i → i < c .k → byteField bs at 1 mostChecks 7 ≡ value count
       → AtChecks bs c r i count (set counts i count) verdict checks (replicate 8 0) (at + 1) 0
   checks-begin v l e =
       let b = byte-is _ _ _ _ _ _ e in
@@ -178,7 +179,7 @@ module _ {bs : List ℕ} {c : Card} {r : Read Tables} {verdict : Verdict} {count
         same = sym (streams-turn bs c i counts checks at l e) ∙ v .same;
       }
 
-  pub streams-stop : {n o : ℕ} → AtStreams bs c r verdict counts checks at i → i < c .k → byteField bs at 1 16 7 ≡ bad n o → fault n o ≡ r
+  pub streams-stop : {n o : ℕ} → AtStreams bs c r verdict counts checks at i → i < c .k → byteField bs at 1 mostChecks 7 ≡ bad n o → fault n o ≡ r
   streams-stop v l e = sym (streams-fault bs c i counts checks at l e) ∙ v .same
 
   pub streams-whole : AtStreams bs c r verdict counts checks at i → c .k ≤ i → got (record { counts = counts; checks = checks }) at ≡ r
@@ -223,7 +224,7 @@ module _ {bs : List ℕ} {c : Card} {r : Read Tables} {verdict : Verdict} {count
 
   module _ {count q place : ℕ} {touched masks : List ℕ} {rest j : ℕ} (v : AtMasks bs c r i count counts q place touched verdict checks masks rest at j) where
     pub masks-next : {x : ℕ} → j < c .p → standingMask bs at (c .m) (rest % 2) ≡ value x
-        → AtMasks bs c r i count counts q place touched verdict (set checks (i * 128 + q * 8 + j) x) (set masks j x) (rest / 2) (at + rest % 2 * 4) (j + 1)
+        → AtMasks bs c r i count counts q place touched verdict (set checks (checkStart i q + j) x) (set masks j x) (rest / 2) (at + rest % 2 * 4) (j + 1)
     masks-next {x} l e =
         record {
           limits = v .limits;

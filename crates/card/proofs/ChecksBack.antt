@@ -7,6 +7,7 @@ use native.Mathlib.Omega.{arith}
 use lib.ListN.{length, drop, length-drop}
 use lib.Pow.{le-ones}
 use borrow.Author.Tests.{eq-eqb, le-ltb}
+use Rattle.code.specs.Limits.{mostChecks}
 use Rattle.card.specs.Fields.{Stream, Fields, codeOf}
 use Rattle.card.specs.Reading.{byteField, readHead, readMasks, readGenerators, judgeAfter, readCheck, readChecks, readStreams, readFields}
 use Rattle.card.specs.Reading.Field.{value}
@@ -46,7 +47,7 @@ module _ (bs : List ℕ) (c : Card) (m-most : c .m ≤ 31) where
       (r .0, checks-step i earlier at vs (k .0) checks (r .0) (check-step i earlier at (mapOf vs) vs (k .0) (b .0) (k .1) (o .0)) (r .1), r .2)
 
   -- ---- the streams
-  streams-step : (i at count : ℕ) (checks : List (List ℕ)) (at₁ : ℕ) (streams : List Stream) (at₂ : ℕ) → byteField bs at 1 16 7 ≡ value count
+  streams-step : (i at count : ℕ) (checks : List (List ℕ)) (at₁ : ℕ) (streams : List Stream) (at₂ : ℕ) → byteField bs at 1 mostChecks 7 ≡ value count
       → readChecks bs c i count [] (at + 1) ≡ got checks at₁ → readStreams bs c (length streams) (i + 1) at₁ ≡ got streams at₂
       → readStreams bs c (suc (length streams)) i at ≡ got (record { count = count; checks = checks } ∷ streams) at₂
   unfolding readStreams
@@ -57,7 +58,7 @@ module _ (bs : List ℕ) (c : Card) (m-most : c .m ≤ 31) where
   unfolding layoutStreams
   streams-back i [] at l a o e = (at, unfold readStreams in refl, e)
   streams-back i (s ∷ streams) at l a o e =
-      let b = byte-back bs at 1 16 7 (s .count) _ e (a .0 .J-least) (a .0 .J-most) in
+      let b = byte-back bs at 1 mostChecks 7 (s .count) _ e (a .0 .J-least) (a .0 .J-most) in
       let k =
       checks-back i [] (s .checks) (at + 1) (layoutStreams streams ++ l) (a .0 .masks) (o .0)
       (b .1 ∙ append-assoc (layoutChecks (s .checks)) (layoutStreams streams) l) in

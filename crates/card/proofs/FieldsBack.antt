@@ -7,6 +7,7 @@ use lib.ListN.{length, getD, length-map, List·getD-map}
 use lib.Seq.{ext-getD}
 use Rattle.bits.specs.Sums.{upTo}
 use Rattle.bits.proofs.Lists.{upTo-length, upTo-at}
+use Rattle.code.specs.Limits.{mostChecks, checkStart}
 use Rattle.code.specs.Checks.{count, checkMask}
 use Rattle.card.specs.Fields.{Fields, cardOf}
 use Rattle.card.specs.Layout.{MasksIn, StreamIn, InRanges}
@@ -64,21 +65,21 @@ module _ (f : Fields) (w : InRanges f) where
     in-limits : StreamIn p (f .head .m) (streamOf f i)
     in-limits = stream-in-list p (f .head .m) (f .streams) (w .streams-in) i (omega (arith, w .stream-count))
 
-    count-back : min (getD (cardOf f .counts) i 0) 16 ≡ streamOf f i .count
+    count-back : min (getD (cardOf f .counts) i 0) mostChecks ≡ streamOf f i .count
     unfolding count
     count-back = omega (arith, count-stated f w i, in-limits .J-most)
 
     checks-back : checksOf (cardOf f .checks) i (streamOf f i .count) p ≡ streamOf f i .checks
     unfolding checksOf masksAt checkMask
     checks-back =
-        listed (λ q. upTo p (λ j. getD (cardOf f .checks) (i * 128 + q * 8 + j) 0)) (streamOf f i .checks) [] (streamOf f i .count) (in-limits .many)
+        listed (λ q. upTo p (λ j. getD (cardOf f .checks) (checkStart i q + j) 0)) (streamOf f i .checks) [] (streamOf f i .count) (in-limits .many)
         (λ q b.
         masks-back p (f .head .m) (getD (streamOf f i .checks) q [])
         (masks-in-list p (f .head .m) (streamOf f i .checks) (in-limits .masks) q (omega (arith, in-limits .many)))
-        (λ j. getD (cardOf f .checks) (i * 128 + q * 8 + j) 0)
+        (λ j. getD (cardOf f .checks) (checkStart i q + j) 0)
         (λ j k. mask-stated f w i q j (omega (arith, in-limits .J-most)) (omega (arith, w .n-most))))
 
-    stream-back : written.streamOf (cardOf f .checks) i (min (getD (cardOf f .counts) i 0) 16) p ≡ streamOf f i
+    stream-back : written.streamOf (cardOf f .checks) i (min (getD (cardOf f .counts) i 0) mostChecks) p ≡ streamOf f i
     unfolding written.streamOf
     stream-back =
         ap (λ (J : ℕ). written.streamOf (cardOf f .checks) i J p) count-back
@@ -87,7 +88,7 @@ module _ (f : Fields) (w : InRanges f) where
   streams-back : streamsOf (cardOf f .counts) (cardOf f .checks) (f .head .k) p ≡ f .streams
   unfolding streamsOf
   streams-back =
-      listed (λ i. written.streamOf (cardOf f .checks) i (min (getD (cardOf f .counts) i 0) 16) p) (f .streams) noStream (f .head .k) (w .stream-count) stream-back
+      listed (λ i. written.streamOf (cardOf f .checks) i (min (getD (cardOf f .counts) i 0) mostChecks) p) (f .streams) noStream (f .head .k) (w .stream-count) stream-back
 
   k-back : kOf (cardOf f) ≡ f .head .k
   unfolding cardOf

@@ -14,6 +14,7 @@ use lib.Dec.{eqb}
 use lib.Pow.{lt-of-le-ones}
 use borrow.Author.Tests.{eq-eqb, ne-eqb, eqb-true, eqb-false}
 use Rattle.bits.proofs.Cases.{same-or-not, picked}
+use Rattle.code.specs.Limits.{mostChecks}
 use Rattle.card.specs.Fields.{Head, Stream, Fields, codeOf}
 use Rattle.card.specs.Reading.{kField, nField, wordAt, standingMask, readHead, readMasks, readRows, readGenerators, readChecks, readStreams, readFields}
 use Rattle.card.specs.Reading.Field.{value}
@@ -179,10 +180,10 @@ module _ (bs : List ℕ) where
         let b = next-got _ _ (a .2) in
         let d = map-got _ _ (b .3) in
         let r = drop-streams c left (i + 1) (b .1) (d .0) (d .1) g in
-        let y = byte-is bs at 1 16 7 (a .0) (a .1) in
+        let y = byte-is bs at 1 mostChecks 7 (a .0) (a .1) in
         let m = drop-checks c i (a .0) [] (at + 1) (b .0) (b .2) r in
         subst (λ x. drop at bs ≡ layoutStreams x ++ l) (d .2)
-        (drop-byte at 1 16 (a .0) y m ∙ ap (λ y. a .0 ∷ y) (sym (append-assoc (layoutChecks (b .0)) (layoutStreams (d .0)) l)))
+        (drop-byte at 1 mostChecks (a .0) y m ∙ ap (λ y. a .0 ∷ y) (sym (append-assoc (layoutChecks (b .0)) (layoutStreams (d .0)) l)))
 
     -- ---- the whole card
     pub read-laid : (rule : CardRule) (f : Fields) (at : ℕ) → readFields rule bs ≡ got f at → bs ≡ layout f

@@ -11,6 +11,7 @@ use lib.Dec.{leb, eqb}
 use lib.Pow.{pow-pos}
 use borrow.Author.Tests.{ne-eqb, eqb-false}
 use Rattle.bits.proofs.Cases.{picked}
+use Rattle.code.specs.Limits.{mostChecks}
 use Rattle.card.specs.Fields.{Stream, Fields, codeOf}
 use Rattle.card.specs.Reading.{kField, nField, mapField, readMasks, readRows, readGenerators, readChecks, readStreams, readFields}
 use Rattle.card.specs.Reading.Field.{value, bad}
@@ -92,7 +93,7 @@ module _ (bs : List ℕ) (c : Card) where
       let a = field-got _ _ e in
       let b = next-got _ _ (a .2) in
       let d = map-got _ _ (b .3) in
-      let n = byte-is bs at 1 16 7 (a .0) (a .1) in
+      let n = byte-is bs at 1 mostChecks 7 (a .0) (a .1) in
       let k = checks-in i (a .0) [] (at + 1) (b .0) (b .2) in
       let r = streams-in left (i + 1) (b .1) (d .0) (d .1) in
       subst (λ x. (length x ≡ suc left) × AllStreamsIn (c .p) (c .m) x × AllStand c i x) (d .2)

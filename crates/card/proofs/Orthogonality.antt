@@ -4,6 +4,7 @@ use mathlib.Core.Path.{_≡_, refl, sym, subst, _∙_}
 use mathlib.Core.List.{List, [], _∷_}
 use native.Mathlib.Omega.{arith}
 use lib.ListN.{length, getD}
+use Rattle.code.specs.Limits.{mostChecks}
 use Rattle.code.specs.Code.{generator}
 use Rattle.code.specs.Checks.{count, checkMask, touchesInfo, touchesBy, touches}
 use Rattle.card.specs.Fields.{Stream, Fields, codeOf, cardOf}
@@ -42,7 +43,7 @@ module _ (f : Fields) (w : InRanges f) where
   abbrev code : Card
   code = codeOf (f .head) (f .rows)
 
-  count-listed : (i : ℕ) → (count (cardOf f) i ≡ length (checksOf i)) × (length (checksOf i) ≤ 16)
+  count-listed : (i : ℕ) → (count (cardOf f) i ≡ length (checksOf i)) × (length (checksOf i) ≤ mostChecks)
   count-listed i =
       let s = stream-stated f w i in
       let many = s .0 in
@@ -54,7 +55,7 @@ module _ (f : Fields) (w : InRanges f) where
   unfolding touchesBy touchesInfo generator cardOf
   touches-code mask b s = refl
 
-  touches-listed : (i q b s : ℕ) → q < 16 → s < f .head .k + (f .head .n - f .head .k) → touches (cardOf f) i q b s ≡ touchesAt code (checksOf i) q b s
+  touches-listed : (i q b s : ℕ) → q < mostChecks → s < f .head .k + (f .head .n - f .head .k) → touches (cardOf f) i q b s ≡ touchesAt code (checksOf i) q b s
   unfolding touches
   touches-listed i q b s h l =
       touches-code (checkMask (cardOf f) i q) b s

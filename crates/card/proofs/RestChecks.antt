@@ -7,6 +7,7 @@ use native.Mathlib.Nat.{sub-zero, add-zero, add-assoc}
 use lib.ListN.{set}
 use lib.Dec.{eqb}
 use borrow.Author.Tests.{eq-eqb, ne-eqb}
+use Rattle.code.specs.Limits.{mostChecks, checkStart}
 use Rattle.card.specs.Fields.{store, storeChecks, storeStreams, storeCounts}
 use Rattle.card.specs.Reading.{Read, mapRead, next, byteField, standingMask, readMasks, judgeAfter, judged, readCheck, readChecks, readStreams}
 use Rattle.card.specs.Reading.Field.{value, bad}
@@ -34,7 +35,7 @@ module _ (bs : List ℕ) (c : Card) where
   pub restMasks : ℕ → ℕ → ℕ → ℕ → List (List ℕ) → List ℕ → List ℕ → ℕ → List ℕ → ℕ → ℕ → Read Tables
   restMasks i count q place earlier counts seen j checks map at =
       next (readMasks bs (c .m) (c .p - j) map at)
-      (λ vs at₁. restJudged i count q place earlier (seen ++ vs) counts (store (i * 128 + q * 8 + j) vs checks) at₁)
+      (λ vs at₁. restJudged i count q place earlier (seen ++ vs) counts (store (checkStart i q + j) vs checks) at₁)
 
   -- ---- the streams
   pub streams-start : (counts checks : List ℕ) (start : ℕ) → restStreams 0 counts checks start ≡ mapRead (tablesWith 0 counts checks) (readStreams bs c (c .k) 0 start)
@@ -45,11 +46,11 @@ module _ (bs : List ℕ) (c : Card) where
   unfolding restStreams readStreams storeCounts storeStreams
   streams-end i counts checks at h = rw (none-left (c .k) i h)
 
-  pub streams-fault : (i : ℕ) (counts checks : List ℕ) (at : ℕ) {n o : ℕ} → i < c .k → byteField bs at 1 16 7 ≡ bad n o → restStreams i counts checks at ≡ fault n o
+  pub streams-fault : (i : ℕ) (counts checks : List ℕ) (at : ℕ) {n o : ℕ} → i < c .k → byteField bs at 1 mostChecks 7 ≡ bad n o → restStreams i counts checks at ≡ fault n o
   unfolding restStreams readStreams
   streams-fault i counts checks at h e = rw (one-less (c .k) i h, e)
 
-  pub streams-turn : (i : ℕ) (counts checks : List ℕ) (at : ℕ) {count : ℕ} → i < c .k → byteField bs at 1 16 7 ≡ value count
+  pub streams-turn : (i : ℕ) (counts checks : List ℕ) (at : ℕ) {count : ℕ} → i < c .k → byteField bs at 1 mostChecks 7 ≡ value count
       → restStreams i counts checks at ≡ restChecks i count 0 [] (set counts i count) checks (at + 1)
   unfolding restStreams restChecks readStreams storeCounts storeStreams
   streams-turn i counts checks at {count} h e =
@@ -76,13 +77,13 @@ module _ (bs : List ℕ) (c : Card) where
 
     after-judged : (place : ℕ) (checks vs : List ℕ) (at number : ℕ)
         → next (judged vs place at number) (checksAfter checks)
-        ≡ cond (eqb number 0) (restChecks i count (q + 1) (vs ∷ earlier) counts (store (i * 128 + q * 8) vs checks) at) (fault number place)
+        ≡ cond (eqb number 0) (restChecks i count (q + 1) (vs ∷ earlier) counts (store (checkStart i q) vs checks) at) (fault number place)
     unfolding restChecks storeChecks
     after-judged place checks vs at number = go (eqb number 0)
       where
         go : (b : Bool)
             → next (cond b (got vs at) (fault number place)) (checksAfter checks)
-            ≡ cond b (restChecks i count (q + 1) (vs ∷ earlier) counts (store (i * 128 + q * 8) vs checks) at) (fault number place)
+            ≡ cond b (restChecks i count (q + 1) (vs ∷ earlier) counts (store (checkStart i q) vs checks) at) (fault number place)
         go true = refl
         go false = refl
 
@@ -111,7 +112,7 @@ module _ (bs : List ℕ) (c : Card) where
     module _ (place : ℕ) (seen : List ℕ) (j : ℕ) (checks : List ℕ) (map at : ℕ) where
       -- from the judgement on, with the masks that are left
       abbrev judgedWith : List ℕ → ℕ → Read Tables
-      judgedWith vs at₁ = restJudged i count q place earlier (seen ++ vs) counts (store (i * 128 + q * 8 + j) vs checks) at₁
+      judgedWith vs at₁ = restJudged i count q place earlier (seen ++ vs) counts (store (checkStart i q + j) vs checks) at₁
 
       pub check-fault : {n o : ℕ} → j < c .p → standingMask bs at (c .m) (map % 2) ≡ bad n o
           → restMasks i count q place earlier counts seen j checks map at ≡ fault n o
@@ -120,14 +121,14 @@ module _ (bs : List ℕ) (c : Card) where
 
       pub check-turn : {v : ℕ} → j < c .p → standingMask bs at (c .m) (map % 2) ≡ value v
           → restMasks i count q place earlier counts seen j checks map at
-          ≡ restMasks i count q place earlier counts (seen ++ (v ∷ [])) (j + 1) (set checks (i * 128 + q * 8 + j) v) (map / 2) (at + map % 2 * 4)
+          ≡ restMasks i count q place earlier counts (seen ++ (v ∷ [])) (j + 1) (set checks (checkStart i q + j) v) (map / 2) (at + map % 2 * 4)
       unfolding restMasks store
       check-turn {v} h e =
           masks-turn bs (c .m) (c .p) judgedWith j map at h e
           ∙ next-same (readMasks bs (c .m) (c .p - (j + 1)) (map / 2) (at + map % 2 * 4))
           (λ vs at₁.
-          ap (λ ws. restJudged i count q place earlier ws counts (store (i * 128 + q * 8 + j + 1) vs (set checks (i * 128 + q * 8 + j) v)) at₁) (sym (append-assoc seen (v ∷ []) vs))
-          ∙ ap (λ a. restJudged i count q place earlier ((seen ++ (v ∷ [])) ++ vs) counts (store a vs (set checks (i * 128 + q * 8 + j) v)) at₁) (add-assoc (i * 128 + q * 8) j 1))
+          ap (λ ws. restJudged i count q place earlier ws counts (store (checkStart i q + j + 1) vs (set checks (checkStart i q + j) v)) at₁) (sym (append-assoc seen (v ∷ []) vs))
+          ∙ ap (λ a. restJudged i count q place earlier ((seen ++ (v ∷ [])) ++ vs) counts (store a vs (set checks (checkStart i q + j) v)) at₁) (add-assoc (checkStart i q) j 1))
 
       check-end : c .p ≤ j → restMasks i count q place earlier counts seen j checks map at ≡ restJudged i count q place earlier seen counts checks at
       unfolding restMasks store

@@ -6,6 +6,7 @@ use native.Mathlib.Omega.{arith}
 use lib.ListN.{length, getD, set, replicate, length-set, List·getD-eq-default}
 use lib.Seq.{getD-set-same, getD-set-other}
 use Rattle.bits.proofs.Lists.{zeros-at, at-places}
+use Rattle.code.specs.Limits.{mostChecks, checkStride, checkWords, checkStart}
 use Rattle.card.specs.Fields.{Stream, store, storeRows, storeChecks, storeStreams, storeCounts}
 use Rattle.card.specs.Layout.{MasksIn, AllMasksIn, StreamIn, AllStreamsIn}
 
@@ -64,24 +65,30 @@ length-checks : (i q : ℕ) (checks : List (List ℕ)) (table : List ℕ) → le
 unfolding storeChecks
 length-checks i q [] table = refl
 length-checks i q (vs ∷ checks) table =
-    length-checks i (q + 1) checks (store (i * 128 + q * 8) vs table) ∙ length-store (i * 128 + q * 8) vs table
+    length-checks i (q + 1) checks (store (checkStart i q) vs table) ∙ length-store (checkStart i q) vs table
 
-checks-low : (i q : ℕ) (checks : List (List ℕ)) (table : List ℕ) (n : ℕ) → n < i * 128 + q * 8
+checks-low : (i q : ℕ) (checks : List (List ℕ)) (table : List ℕ) (n : ℕ) → n < checkStart i q
     → getD (storeChecks i q checks table) n 0 ≡ getD table n 0
 unfolding storeChecks
 checks-low i q [] table n h = refl
 checks-low i q (vs ∷ checks) table n h =
-    checks-low i (q + 1) checks (store (i * 128 + q * 8) vs table) n (omega arith) ∙ store-low (i * 128 + q * 8) vs table n h
+    checks-low i (q + 1) checks (store (checkStart i q) vs table) n (omega arith) ∙ store-low (checkStart i q) vs table n h
 
 -- the generators are stored as checks of stream 0 would be
 rows-as-checks : (i : ℕ) (rows : List (List ℕ)) (table : List ℕ) → storeRows i rows table ≡ storeChecks 0 i rows table
 unfolding storeRows storeChecks
 rows-as-checks i [] table = refl
 rows-as-checks i (vs ∷ rows) table =
-    let e : i * 8 ≡ 0 * 128 + i * 8 = omega arith in
+    let e : i * 8 ≡ checkStart 0 i = omega arith in
     rows-as-checks (i + 1) rows (store (i * 8) vs table) ∙ ap (λ at. storeChecks 0 (i + 1) rows (store at vs table)) e
 
-streams-low : (i : ℕ) (streams : List Stream) (table : List ℕ) (n : ℕ) → n < i * 128 → getD (storeStreams i streams table) n 0 ≡ getD table n 0
+pub length-streams : (i : ℕ) (streams : List Stream) (table : List ℕ) → length (storeStreams i streams table) ≡ length table
+unfolding storeStreams
+length-streams i [] table = refl
+length-streams i (s ∷ streams) table =
+    length-streams (i + 1) streams (storeChecks i 0 (s .checks) table) ∙ length-checks i 0 (s .checks) table
+
+streams-low : (i : ℕ) (streams : List Stream) (table : List ℕ) (n : ℕ) → n < i * checkStride → getD (storeStreams i streams table) n 0 ≡ getD table n 0
 unfolding storeStreams
 streams-low i [] table n h = refl
 streams-low i (s ∷ streams) table n h =
@@ -114,31 +121,31 @@ module _ (p m : ℕ) (p-most : p ≤ 8) where
   masks-rest : (at : ℕ) (vs table : List ℕ) → MasksIn p m vs → at + 8 ≤ length table → ZeroFrom at table → ZeroFrom (at + 8) (store at vs table)
   masks-rest at vs table a l z n h = let w = a .many in store-rest at vs table (omega arith) z n (omega arith)
 
-  checks-from : (i q : ℕ) (checks : List (List ℕ)) (table : List ℕ) → AllMasksIn p m checks → i * 128 + (q + length checks) * 8 ≤ length table
-      → ZeroFrom (i * 128 + q * 8) table → (r j n : ℕ) → j < 8 → n ≡ i * 128 + (q + r) * 8 + j
+  checks-from : (i q : ℕ) (checks : List (List ℕ)) (table : List ℕ) → AllMasksIn p m checks → checkStart i (q + length checks) ≤ length table
+      → ZeroFrom (checkStart i q) table → (r j n : ℕ) → j < 8 → n ≡ checkStart i (q + r) + j
       → getD (storeChecks i q checks table) n 0 ≡ getD (getD checks r []) j 0
   unfolding storeChecks
   checks-from i q [] table a l z r j n h e = z n (omega arith)
   checks-from i q (vs ∷ checks) table a l z zero j n h e =
       let w = a .0 .many in
-      checks-low i (q + 1) checks (store (i * 128 + q * 8) vs table) n (omega arith)
-      ∙ store-at (i * 128 + q * 8) vs table (omega arith) z j n (omega arith)
+      checks-low i (q + 1) checks (store (checkStart i q) vs table) n (omega arith)
+      ∙ store-at (checkStart i q) vs table (omega arith) z j n (omega arith)
   checks-from i q (vs ∷ checks) table a l z (suc r) j n h e =
-      let w = length-store (i * 128 + q * 8) vs table in
-      let rest = masks-rest (i * 128 + q * 8) vs table (a .0) (omega arith) z in
-      checks-from i (q + 1) checks (store (i * 128 + q * 8) vs table) (a .1) (omega arith) (λ x k. rest x (omega arith)) r j n h (omega arith)
+      let w = length-store (checkStart i q) vs table in
+      let rest = masks-rest (checkStart i q) vs table (a .0) (omega arith) z in
+      checks-from i (q + 1) checks (store (checkStart i q) vs table) (a .1) (omega arith) (λ x k. rest x (omega arith)) r j n h (omega arith)
 
-  checks-rest : (i q : ℕ) (checks : List (List ℕ)) (table : List ℕ) → AllMasksIn p m checks → i * 128 + (q + length checks) * 8 ≤ length table
-      → ZeroFrom (i * 128 + q * 8) table → ZeroFrom (i * 128 + (q + length checks) * 8) (storeChecks i q checks table)
+  checks-rest : (i q : ℕ) (checks : List (List ℕ)) (table : List ℕ) → AllMasksIn p m checks → checkStart i (q + length checks) ≤ length table
+      → ZeroFrom (checkStart i q) table → ZeroFrom (checkStart i (q + length checks)) (storeChecks i q checks table)
   unfolding storeChecks
   checks-rest i q [] table a l z n h = z n (omega arith)
   checks-rest i q (vs ∷ checks) table a l z n h =
-      let w = length-store (i * 128 + q * 8) vs table in
-      let rest = masks-rest (i * 128 + q * 8) vs table (a .0) (omega arith) z in
-      checks-rest i (q + 1) checks (store (i * 128 + q * 8) vs table) (a .1) (omega arith) (λ x k. rest x (omega arith)) n (omega arith)
+      let w = length-store (checkStart i q) vs table in
+      let rest = masks-rest (checkStart i q) vs table (a .0) (omega arith) z in
+      checks-rest i (q + 1) checks (store (checkStart i q) vs table) (a .1) (omega arith) (λ x k. rest x (omega arith)) n (omega arith)
 
-  streams-from : (i : ℕ) (streams : List Stream) (table : List ℕ) → AllStreamsIn p m streams → (i + length streams) * 128 ≤ length table
-      → ZeroFrom (i * 128) table → (i₁ q j n : ℕ) → q < 16 → j < 8 → n ≡ (i + i₁) * 128 + q * 8 + j
+  streams-from : (i : ℕ) (streams : List Stream) (table : List ℕ) → AllStreamsIn p m streams → (i + length streams) * checkStride ≤ length table
+      → ZeroFrom (i * checkStride) table → (i₁ q j n : ℕ) → q < mostChecks → j < 8 → n ≡ checkStart (i + i₁) q + j
       → getD (storeStreams i streams table) n 0 ≡ getD (getD (getD streams i₁ noStream .checks) q []) j 0
   unfolding storeStreams
   streams-from i [] table a l z i₁ q j n h k e = z n (omega arith)
@@ -160,7 +167,7 @@ module _ (p m : ℕ) (p-most : p ≤ 8) where
       ap (λ table. getD table (i * 8 + j) 0) (rows-as-checks 0 rows (replicate 32 0))
       ∙ checks-from 0 0 rows (replicate 32 0) a (omega arith) (zeros-from 0 32) i j (i * 8 + j) h (omega arith)
 
-  pub check-at : (streams : List Stream) → AllStreamsIn p m streams → length streams ≤ 4 → (i q j : ℕ) → q < 16 → j < 8
-      → getD (storeStreams 0 streams (replicate 512 0)) (i * 128 + q * 8 + j) 0 ≡ getD (getD (getD streams i noStream .checks) q []) j 0
+  pub check-at : (streams : List Stream) → AllStreamsIn p m streams → length streams ≤ 4 → (i q j : ℕ) → q < mostChecks → j < 8
+      → getD (storeStreams 0 streams (replicate checkWords 0)) (checkStart i q + j) 0 ≡ getD (getD (getD streams i noStream .checks) q []) j 0
   check-at streams a l i q j h k =
-      streams-from 0 streams (replicate 512 0) a (omega arith) (zeros-from 0 512) i q j (i * 128 + q * 8 + j) h k (omega arith)
+      streams-from 0 streams (replicate checkWords 0) a (omega arith) (zeros-from 0 checkWords) i q j (checkStart i q + j) h k (omega arith)

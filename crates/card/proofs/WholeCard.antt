@@ -5,6 +5,7 @@ use mathlib.Core.List.{List}
 use native.Mathlib.Omega.{arith}
 use lib.ListN.{length, replicate}
 use borrow.Author.Tests.{lt-ltb, le-ltb}
+use Rattle.code.specs.Limits.{checkWords}
 use Rattle.card.specs.Refusals.{numberOf}
 use Rattle.card.specs.Outcome.{outcomeOf, published}
 use Rattle.card.specs.Outcome.Outcome.{accepted}
@@ -109,18 +110,18 @@ module _ (rule : CardRule) (bs : List ℕ) (v₁ : Verdict) (z : Sizes) (at₁ :
         code-is = sym (ap (λ z. codeBy z (storeRows 0 (rows-got .0) (replicate 32 0))) (head-got .2) ∙ ap (codeBy z) (rows-got .2))
 
         module _ (v₃ : Verdict) (tables : Tables) (at₃ : ℕ)
-            (e₃ : readBy v₃ tables at₃ ≡ mapRead (tablesWith 0 (replicate 4 0) (replicate 512 0)) (readStreams bs (codeBy z generators) (z .k) 0 at₂)) where
+            (e₃ : readBy v₃ tables at₃ ≡ mapRead (tablesWith 0 (replicate 4 0) (replicate checkWords 0)) (readStreams bs (codeBy z generators) (z .k) 0 at₂)) where
           abbrev streamsRead : Card → Read (List Stream)
           streamsRead c = readStreams bs c (c .k) 0 at₂
 
           pub checks-stop : {x : Refusal} {o : ℕ} → v₃ ≡ Refused x o → refusedCard (numberOf x) o ≡ readUnder rule bs
           checks-stop q =
               checks-refused rule bs (head-got .1) rows-read
-              (ap streamsRead (sym code-is) ∙ part-fault (tablesWith 0 (replicate 4 0) (replicate 512 0)) (streamsRead (codeBy z generators)) v₃ tables at₃ e₃ q)
+              (ap streamsRead (sym code-is) ∙ part-fault (tablesWith 0 (replicate 4 0) (replicate checkWords 0)) (streamsRead (codeBy z generators)) v₃ tables at₃ e₃ q)
 
           module _ (a₃ : v₃ ≡ Accepted) where
-            streams-got : (streams : List Stream) × (streamsRead (codeBy z generators) ≡ got streams at₃) × (tablesWith 0 (replicate 4 0) (replicate 512 0) streams ≡ tables)
-            streams-got = part-got (tablesWith 0 (replicate 4 0) (replicate 512 0)) (streamsRead (codeBy z generators)) v₃ tables at₃ e₃ a₃
+            streams-got : (streams : List Stream) × (streamsRead (codeBy z generators) ≡ got streams at₃) × (tablesWith 0 (replicate 4 0) (replicate checkWords 0) streams ≡ tables)
+            streams-got = part-got (tablesWith 0 (replicate 4 0) (replicate checkWords 0)) (streamsRead (codeBy z generators)) v₃ tables at₃ e₃ a₃
 
             streams-read : streamsRead (codeOf (head-got .0) (rows-got .0)) ≡ got (streams-got .0) at₃
             streams-read = ap streamsRead (sym code-is) ∙ streams-got .1

@@ -5,6 +5,7 @@
 use Prim.Native.Nat.{ℕ, _+_, _-_, _*_}
 use mathlib.Core.List.{List, [], _∷_}
 use lib.ListN.{set, replicate}
+use Rattle.code.specs.Limits.{checkWords, checkStart}
 use Rattle.code.specs.declared.Card.{Card}
 
 -- the fields before the generators; kStands and nStands are bits 0 and 1 of byte 0, and k and n have their defaults where they do not stand
@@ -39,10 +40,10 @@ unfoldable pub storeRows : ℕ → List (List ℕ) → List ℕ → List ℕ
 storeRows i [] table = table
 storeRows i (vs ∷ rows) table = storeRows (i + 1) rows (store (i * 8) vs table)
 
--- the checks of stream i from q on, at i * 128 + q * 8 + j
+-- the checks of stream i from q on, at checkStart i q + j
 unfoldable pub storeChecks : ℕ → ℕ → List (List ℕ) → List ℕ → List ℕ
 storeChecks i q [] table = table
-storeChecks i q (vs ∷ checks) table = storeChecks i (q + 1) checks (store (i * 128 + q * 8) vs table)
+storeChecks i q (vs ∷ checks) table = storeChecks i (q + 1) checks (store (checkStart i q) vs table)
 
 -- the checks of the streams from i on, and their counts
 unfoldable pub storeStreams : ℕ → List Stream → List ℕ → List ℕ
@@ -57,7 +58,7 @@ storeCounts i (s ∷ streams) table = storeCounts (i + 1) streams (set table i (
 
 -- the card of a refusal
 abbrev pub emptyCard : Card
-emptyCard = record { number = 0; k = 0; p = 0; m = 0; generators = replicate 32 0; counts = replicate 4 0; checks = replicate 512 0 }
+emptyCard = record { number = 0; k = 0; p = 0; m = 0; generators = replicate 32 0; counts = replicate 4 0; checks = replicate checkWords 0 }
 
 -- the card as it stands before its first check: the head and the generators
 abbrev pub codeOf : Head → List (List ℕ) → Card
@@ -69,7 +70,7 @@ codeOf h rows =
       m = h .m;
       generators = storeRows 0 rows (replicate 32 0);
       counts = replicate 4 0;
-      checks = replicate 512 0;
+      checks = replicate checkWords 0;
     }
 
 -- a card with the checks of its streams
@@ -82,7 +83,7 @@ withChecks c streams =
       m = c .m;
       generators = c .generators;
       counts = storeCounts 0 streams (replicate 4 0);
-      checks = storeStreams 0 streams (replicate 512 0);
+      checks = storeStreams 0 streams (replicate checkWords 0);
     }
 
 -- the card that the fields state; what they do not state is zero

@@ -8,6 +8,7 @@ use mathlib.Core.Bool.{cond}
 use mathlib.Core.List.{List, [], _∷_, _++_}
 use lib.ListN.{length, getD}
 use lib.Dec.{eqb}
+use Rattle.code.specs.Limits.{mostChecks}
 use Rattle.code.specs.Checks.{Orthogonal}
 use Rattle.card.specs.Fields.{Head, Stream, Fields, cardOf}
 use Rattle.card.specs.declared.CardRule.{CardRule}
@@ -75,11 +76,11 @@ abbrev pub AllMasksIn : ℕ → ℕ → List (List ℕ) → Type 0
 AllMasksIn p m [] = Unit {0}
 AllMasksIn p m (vs ∷ rest) = MasksIn p m vs × AllMasksIn p m rest
 
--- J checks, J from 1 to 16
+-- J checks, at least one and not more than the most
 pub record StreamIn (p m : ℕ) (s : Stream) : Type 0 where
   pub many : length (s .checks) ≡ s .count
   pub J-least : 1 ≤ s .count
-  pub J-most : s .count ≤ 16
+  pub J-most : s .count ≤ mostChecks
   pub masks : AllMasksIn p m (s .checks)
 
 abbrev pub AllStreamsIn : ℕ → ℕ → List Stream → Type 0
@@ -117,6 +118,10 @@ DefaultsIn Present f = StatesNoDefault f
 pub record InLimits (rule : CardRule) (f : Fields) : Type 0 where
   pub ranges : InRanges f
   pub defaults : DefaultsIn rule f
+
+-- "No accepted card has more than 1,163 bytes": k 4 and n 8 stand, all sixteen generators, and for each stream J and the most checks, of four masks each
+abbrev pub longestCard : ℕ
+longestCard = 5 + (2 + 4 * 16) + 4 * (1 + mostChecks * (1 + 4 * 4))
 
 -- the checks of every information stream are orthogonal
 abbrev pub TrulyOrthogonal : Fields → Type 0

@@ -5,6 +5,7 @@ use Prim.Native.Nat.{ℕ, _+_, _-_, _/_, _%_}
 use mathlib.Core.Path.{_≡_}
 use mathlib.Core.List.{List}
 use lib.ListN.{replicate}
+use Rattle.code.specs.Limits.{checkWords}
 use Rattle.card.specs.Refusals.{numberOf}
 use Rattle.card.specs.Fields.{Head, Stream, storeCounts, storeStreams}
 use Rattle.card.specs.Reading.{Field, Read, field, byteField}
@@ -52,7 +53,7 @@ sizesOf h = record { number = h .number; k = h .k; p = h .n - h .k; m = h .m }
 
 -- the card before its checks
 abbrev pub codeBy : Sizes → List ℕ → Card
-codeBy z generators = record { number = z .number; k = z .k; p = z .p; m = z .m; generators = generators; counts = replicate 4 0; checks = replicate 512 0 }
+codeBy z generators = record { number = z .number; k = z .k; p = z .p; m = z .m; generators = generators; counts = replicate 4 0; checks = replicate checkWords 0 }
 
 -- the tables of its checks
 pub record Tables : Type 0 where

@@ -9,7 +9,7 @@ use lib.ListN.{length, getD}
 use Rattle.card.specs.Outcome.{published, outcomeOf}
 use Rattle.card.specs.Outcome.Outcome.{accepted}
 use Rattle.card.specs.Fields.{Fields, cardOf}
-use Rattle.card.specs.Layout.{Acceptable}
+use Rattle.card.specs.Layout.{longestCard, Acceptable}
 use Rattle.code.specs.Guarantees.{Guarantees}
 use Rattle.card.specs.Reading.{readUnder, readCard}
 use Rattle.card.specs.declared.CardRead.{CardRead}
@@ -32,7 +32,7 @@ pub record CardPromise (rule : CardRule) (bytes : List ℕ) (r : CardRead) : Typ
   pub only-these : outcomeOf (r .verdict) ≡ accepted → (f : Fields) × AcceptedAs rule bytes r f
   -- .. and nobody who brings such a card can be turned down
   pub all-these : (f : Fields) → Acceptable rule bytes f → outcomeOf (r .verdict) ≡ accepted
-  pub length-most : outcomeOf (r .verdict) ≡ accepted → length bytes ≤ 1163
+  pub length-most : outcomeOf (r .verdict) ≡ accepted → length bytes ≤ longestCard
   pub guaranteed : outcomeOf (r .verdict) ≡ accepted → Guarantees (r .card)
   -- this card and any other, both accepted under the present rule
   pub one-form : (other : List ℕ) → ((i : ℕ) → getD other i 0 < 256) → readCard bytes .outcome ≡ accepted → readCard other .outcome ≡ accepted

@@ -7,6 +7,7 @@ use mathlib.Core.Bool.{cond}
 use mathlib.Core.List.{List, [], _∷_}
 use lib.ListN.{length, getD}
 use lib.Dec.{leb, ltb, eqb}
+use Rattle.code.specs.Limits.{mostChecks}
 use Rattle.card.specs.Outcome.{CardOutcome}
 use Rattle.card.specs.Outcome.Outcome.{accepted, refused}
 use Rattle.code.specs.Checks.{touchesBy}
@@ -146,11 +147,11 @@ readChecks bs c i zero earlier at = got [] at
 readChecks bs c i (suc left) earlier at =
     next (readCheck bs c i earlier at) λ vs after. mapRead (λ checks. vs ∷ checks) (readChecks bs c i left (vs ∷ earlier) after)
 
--- for each information stream from i on J, outside 1 to 16 7, and its checks
+-- for each information stream from i on J, outside 1 to the most 7, and its checks
 unfoldable pub readStreams : List ℕ → Card → ℕ → ℕ → ℕ → Read (List Stream)
 readStreams bs c zero i at = got [] at
 readStreams bs c (suc left) i at =
-    field (byteField bs at 1 16 7) λ count.
+    field (byteField bs at 1 mostChecks 7) λ count.
     next (readChecks bs c i count [] (at + 1)) λ checks after.
     mapRead (λ streams. record { count = count; checks = checks } ∷ streams) (readStreams bs c left (i + 1) after)
 

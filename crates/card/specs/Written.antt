@@ -9,6 +9,7 @@ use mathlib.Core.List.{List, map}
 use lib.ListN.{getD}
 use lib.Dec.{eqb}
 use Rattle.bits.specs.Sums.{upTo}
+use Rattle.code.specs.Limits.{mostChecks, checkStart}
 use Rattle.code.specs.declared.Card.{Card}
 use Rattle.card.specs.Fields.{Head, Stream, Fields}
 use Rattle.card.specs.Layout.{layout}
@@ -35,15 +36,15 @@ rowsOf generators k p = map (λ i. masksAt generators (i * 8) p) (upTo k (λ i. 
 
 -- the first J checks of information stream i
 unfoldable pub checksOf : List ℕ → ℕ → ℕ → ℕ → List (List ℕ)
-checksOf checks i J p = map (λ q. masksAt checks (i * 128 + q * 8) p) (upTo J (λ q. q))
+checksOf checks i J p = map (λ q. masksAt checks (checkStart i q) p) (upTo J (λ q. q))
 
 -- information stream i with J checks
 unfoldable pub streamOf : List ℕ → ℕ → ℕ → ℕ → Stream
 streamOf checks i J p = record { count = J; checks = checksOf checks i J p }
 
--- k information streams, each with at most 16 checks
+-- k information streams, each with at most `mostChecks`
 unfoldable pub streamsOf : List ℕ → List ℕ → ℕ → ℕ → List Stream
-streamsOf counts checks k p = map (λ i. streamOf checks i (min (getD counts i 0) 16) p) (upTo k (λ i. i))
+streamsOf counts checks k p = map (λ i. streamOf checks i (min (getD counts i 0) mostChecks) p) (upTo k (λ i. i))
 
 -- ---- the card
 

@@ -2,6 +2,7 @@
 ghost use mathlib.Core.Path.{_≡_};
 ghost use Prim.Native.Nat.{_+_, _<_, _≤_};
 ghost use lib.ListN.{length, replicate};
+ghost use Rattle.code.specs.Limits.{checkWords};
 ghost use Rattle.orthogonal.specs.Judgements.{failureNumber};
 ghost use Rattle.card.specs.Refusals.{numberOf};
 ghost use Rattle.card.specs.Reading.{mapRead, readStreams};
@@ -12,6 +13,9 @@ use crate::fields;
 use crate::fields::FieldRead;
 use crate::parts::PartRead;
 use crate::parts::Sizes;
+use code::CHECK_STRIDE;
+use code::CHECK_WORDS;
+use code::MOST_CHECKS;
 use orthogonal::Failure;
 use orthogonal::Judgement;
 
@@ -31,13 +35,13 @@ pub(crate) fn read_checks(
     start: usize,
     sizes: Sizes,
     generators: &[u32; 32],
-    counts: &mut [usize; 4],
-    checks: &mut [u32; 512],
+    counts: &mut [u32; 4],
+    checks: &mut [u32; CHECK_WORDS],
 ) -> PartRead
     requires { ⌜ (start ≤ length (now bytes)) × ((sizes .k ≤ 4) × ((sizes .k + sizes .p ≤ 8) × ((sizes .p ≤ 7) × (sizes .m < 32)))) ⌝ }
-    requires { ⌜ (now counts ≡ replicate 4 0) × (now checks ≡ replicate 512 0) ⌝ }
+    requires { ⌜ (now counts ≡ replicate 4 0) × (now checks ≡ replicate checkWords 0) ⌝ }
     ensures { λ r. ⌜ readBy (r .verdict) (record { counts = now (counts .exit); checks = now (checks .exit) }) (r .at)
-        ≡ mapRead (tablesWith 0 (replicate 4 0) (replicate 512 0))
+        ≡ mapRead (tablesWith 0 (replicate 4 0) (replicate checkWords 0))
         (readStreams (now (bytes .entry)) (codeBy sizes (now (generators .entry))) (sizes .k) 0 start) ⌝ }
 {
     let k = sizes.k;
@@ -45,12 +49,18 @@ pub(crate) fn read_checks(
     let mut verdict = Verdict::Accepted;
     let mut at = start;
     'card: for i in 0..k {
-        let count_read = fields::byte_field(bytes, at, 1, 16, Refusal::CheckCountOutOfRange);
+        let count_read = fields::byte_field(
+            bytes,
+            at,
+            1,
+            MOST_CHECKS as u32,
+            Refusal::CheckCountOutOfRange,
+        );
         let FieldRead::Value(count) = count_read else {
             verdict = fields::verdict_of(count_read);
             break 'card;
         };
-        counts[i] = count as usize;
+        counts[i] = count;
         at += 1;
         let mut touched = [0u32; 8];
         for q in 0..count as usize {
@@ -76,7 +86,7 @@ pub(crate) fn read_checks(
                     break 'card;
                 };
                 masks[j] = mask;
-                checks[i * 128 + q * 8 + j] = mask;
+                checks[i * CHECK_STRIDE + q * 8 + j] = mask;
                 at += (rest % 2) as usize * 4;
                 rest = rest / 2;
             }

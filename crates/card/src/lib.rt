@@ -7,7 +7,12 @@ ghost use mathlib.Core.Path.{_≡_};
 ghost use Rattle.card.specs.Refusals.{numberOf};
 ghost use Rattle.card.specs.Fields.{emptyCard};
 ghost use Rattle.card.specs.Promise.{CardPromise};
+use code::CHECK_WORDS;
 use code::Card;
+use code::MOST_CHECKS;
+
+// No accepted card has more bytes: k 4 and n 8 stand, all sixteen generators, and for each stream J and the most checks, of four masks each.
+pub const LONGEST_CARD: usize = 5 + (2 + 4 * 16) + 4 * (1 + MOST_CHECKS * (1 + 4 * 4));
 
 // Why something is refused. Each case has its published number, by `refusal_number`.
 pub enum Refusal {
@@ -108,8 +113,8 @@ pub fn read_card(rule: CardRule, bytes: &[u8]) -> CardRead
     } = code_verdict {
         return refused(code_verdict);
     }
-    let mut counts = [0usize; 4];
-    let mut checks = [0u32; 512];
+    let mut counts = [0u32; 4];
+    let mut checks = [0u32; CHECK_WORDS];
     let whole = checks::read_checks(bytes, code.at, sizes, &generators, &mut counts, &mut checks);
     let verdict = whole.verdict;
     if let Verdict::Refused {

@@ -11,6 +11,7 @@ use crate::Refusal;
 use crate::Verdict;
 use crate::fields;
 use crate::fields::FieldRead;
+use code::CHECK_WORDS;
 use code::Card;
 
 // What the head of a card states.
@@ -45,7 +46,7 @@ pub(crate) fn empty_card() -> Card
         m: 0,
         generators: [0; 32],
         counts: [0; 4],
-        checks: [0; 512],
+        checks: [0; CHECK_WORDS],
     }
 }
 

@@ -3,23 +3,24 @@ use Prim.Native.Nat.{ℕ, _≤_}
 use mathlib.Core.Path.{_≡_, refl, sym, ap, _∙_}
 use mathlib.Core.List.{List, [], _∷_, _++_}
 use native.Mathlib.Omega.{arith}
+use lib.Count.{ones}
 use lib.ListN.{length, take, drop}
 use lib.IntN.{pos, negℤ}
-use Rattle.bits.specs.Sums.{sumBelow, xorBelow, upTo}
+use Rattle.bits.specs.Sums.{sumBelow, xorBelow, upTo, putFirst}
 use Rattle.bits.specs.Digits.{bit, fromDigits, dot, shiftUp}
 use Rattle.code.specs.Bench.{P}
 use Rattle.code.specs.Code.{mostFrames}
-use Rattle.code.specs.Registers.{generatorMask, generatorSum, shiftIn, historyBy, parityBy, digitBy, frameBy, movedOn}
+use Rattle.code.specs.Registers.{generatorMask, generatorSum, shiftIn, historyBy, parityBy, digitBy, frameBy, syndromesBy, feedbackBy, withDigits, withWords, movedOn}
 use Rattle.card.specs.Bench.{cardP}
 use Rattle.card.specs.Outcome.{CardOutcome}
-use Rattle.vote.specs.Voting.{checkBy, votesBy, majorityBy, decideBy}
+use Rattle.vote.specs.ErasedDigits.{anyWith, erasedWith, erasedMoved}
+use Rattle.vote.specs.Voters.{allVoting, votersBy, decideMarked}
+use Rattle.vote.specs.Voting.{checkBy, onesBy, ifWhole, majorityBy, decideBy}
 use Rattle.receiving.specs.Calls.{replyOf, answers, handedBy, handedIn}
 use Rattle.receiving.specs.Opening as receiver
 use Rattle.receiving.specs.Readings.{readByteOf}
 use Rattle.receiving.specs.Receive as received
-use Rattle.voters.specs.ErasedDigits.{erasedWith, erasedMoved}
-use Rattle.decoder.specs.Registers.{syndromeBy, withSyndromes, errorsBy, correctedDigit, correctedBy, clearedBy, takenOutBy, fedBackBy}
-use Rattle.decoder.specs.Held.{heldWith, errorsIn, heldAfter}
+use Rattle.decoder.specs.Held.{withSyndromes, fedBack, heldWith, heldAfter, correctedDigit, correctedBy}
 use Rattle.decoder.specs.Receive.{firstCircuit, errorsOf, withFrame, handingOf, takenOf}
 use Rattle.encoder.specs.Calls.{callOf, givenBy, framesGiven}
 use Rattle.encoder.specs.Opening as sender
@@ -60,11 +61,11 @@ abbrev information : List ℕ
 information = 1 ∷ 2 ∷ 0 ∷ 1 ∷ []
 
 frames-out : (receiving.framesOf (received.openOf firstCircuit P) oneWrong ≡ 1 ∷ 0 ∷ 1 ∷ []) × (receiving.framesOf (received.openOf firstCircuit P) oneRefused ≡ 1 ∷ 0 ∷ 1 ∷ [])
-unfolding sumBelow xorBelow upTo bit fromDigits dot shiftUp generatorMask generatorSum shiftIn historyBy parityBy movedOn checkBy votesBy majorityBy decideBy erasedWith erasedMoved syndromeBy withSyndromes errorsBy correctedDigit correctedBy clearedBy takenOutBy fedBackBy heldWith errorsIn heldAfter errorsOf readByteOf received.openOf withFrame handingOf takenOf received.inTurn received.admitOf received.refusedOf received.settledOf received.receiveOf received.receiveByteOf replyOf handedBy handedIn answers
+unfolding sumBelow xorBelow upTo putFirst bit fromDigits dot shiftUp generatorMask generatorSum shiftIn historyBy parityBy digitBy frameBy syndromesBy feedbackBy withDigits withWords movedOn checkBy onesBy ifWhole majorityBy decideBy allVoting votersBy anyWith erasedWith erasedMoved correctedDigit correctedBy withSyndromes decideMarked fedBack heldWith heldAfter errorsOf readByteOf received.openOf withFrame handingOf takenOf received.inTurn received.admitOf received.refusedOf received.settledOf received.receiveOf received.receiveByteOf replyOf handedBy handedIn answers ones
 frames-out = (refl, refl)
 
 frames-sent : sending.framesOf (sent.openOf P) information ≡ 3 ∷ 2 ∷ 3 ∷ 2 ∷ []
-unfolding sumBelow upTo bit fromDigits dot generatorMask generatorSum shiftIn historyBy parityBy digitBy frameBy sent.openOf sent.refusedOf sent.historyNext sent.frameNext sent.encodedOf sent.sendOf sent.sendTailOf callOf givenBy framesGiven
+unfolding sumBelow upTo putFirst bit fromDigits dot generatorMask shiftIn historyBy parityBy digitBy frameBy sent.openOf sent.refusedOf sent.historyNext sent.frameNext sent.encodedOf sent.sendOf sent.sendTailOf callOf givenBy framesGiven
 frames-sent = refl
 
 -- ---- what the runs come to

@@ -1,7 +1,7 @@
 -- What the clauses of the sender's promises give for card P.
 use mathlib.Core.Path.{_≡_, ap, _∙_, subst}
 use lib.ListN.{take}
-use Rattle.bits.specs.Sums.{sumBelow, upTo}
+use Rattle.bits.specs.Sums.{sumBelow, upTo, putFirst}
 use Rattle.bits.specs.Digits.{bit, fromDigits, dot}
 use Rattle.code.specs.Bench.{P}
 use Rattle.code.specs.Registers.{generatorMask, shiftIn, historyBy, parityBy, digitBy, frameBy}
@@ -35,7 +35,7 @@ module _ (r : Opened) (promise : OpenPromise cardP r) where
   -- the tail's first frame after an information frame, each a call of its own
   pub tail-after : (first second : Sent) → published first ≡ sendOf (r .session) 1 → published second ≡ sendTailOf (first .session)
       → published second .outcome ≡ frame 2
-  unfolding sumBelow upTo bit fromDigits dot generatorMask shiftIn historyBy parityBy digitBy frameBy openOf historyNext frameNext encodedOf sendOf sendTailOf
+  unfolding sumBelow upTo putFirst bit fromDigits dot generatorMask shiftIn historyBy parityBy digitBy frameBy openOf historyNext frameNext encodedOf sendOf sendTailOf
   tail-after first second a b =
       ap (λ (x : SendOutcome). x .outcome) b
       ∙ ap (λ (x : SendOutcome). sendTailOf (x .session) .outcome) a

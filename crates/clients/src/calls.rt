@@ -113,7 +113,6 @@ pub fn quarters_are_read() -> receiving::ReadFrame
             Reading::Level(0.0f32 / 0.0f32),
             Reading::Erased,
         ],
-        1,
-        5,
+        6,
     )
 }

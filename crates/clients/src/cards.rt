@@ -10,6 +10,7 @@ ghost use Rattle.card.specs.Layout.{Acceptable};
 ghost use Rattle.card.specs.declared.CardRule.{CardRule};
 use card::CardRead;
 use card::CardRule;
+use card::LONGEST_CARD;
 
 // Card P.
 pub(crate) const P: [u8; 20] =
@@ -67,7 +68,7 @@ pub fn t_with_s2_is_not_accepted(rule: CardRule) -> CardRead
 }
 
 // More bytes than any card has: `length-most`.
-pub fn too_long_is_not_accepted(rule: CardRule, bytes: &[u8; 1164]) -> CardRead
+pub fn too_long_is_not_accepted(rule: CardRule, bytes: &[u8; LONGEST_CARD + 1]) -> CardRead
     ensures { λ r. ⌜ (outcomeOf (r .verdict) ≡ accepted → ⊥) ⌝ }
 {
     card::read_card(rule, bytes)

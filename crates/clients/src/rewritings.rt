@@ -7,6 +7,7 @@ ghost use Rattle.code.specs.Bench as Bench;
 ghost use Rattle.code.specs.Bench.{s};
 ghost use Rattle.code.specs.declared.Card.{Card};
 ghost use Rattle.card.specs.Bench.{cardP, cardT};
+ghost use Rattle.card.specs.Layout.{longestCard};
 ghost use Rattle.card.specs.Outcome.Outcome.{accepted};
 ghost use Rattle.card.specs.Reading.{readUnder, readCard};
 ghost use Rattle.card.specs.declared.CardRule.{CardRule};
@@ -61,7 +62,7 @@ pub fn longest_is_read(input: &[u8; 2048], output: &mut [u8; REWRITING_ROOM]) ->
 // One more is too long, and what follows it changes nothing: `by-the-front`. There is always room.
 pub fn longer_is_too_long(front: &[u8; 2049], output: &mut [u8; REWRITING_ROOM]) -> usize
     ensures { λ r. ⌜ take r (now (output .exit)) ≡ tooLongLine ⌝ }
-    ensures { λ r. ⌜ ((more : List ℕ) → take r (now (output .exit)) ≡ rewritten (now (front .entry) ++ more)) × (r ≤ 1163) ⌝ }
+    ensures { λ r. ⌜ ((more : List ℕ) → take r (now (output .exit)) ≡ rewritten (now (front .entry) ++ more)) × (r ≤ longestCard) ⌝ }
 {
     listing::rewriting::rewrite(front, output)
 }

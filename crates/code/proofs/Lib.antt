@@ -8,3 +8,4 @@ pub mod Sending
 pub mod Touches
 pub mod Besides
 pub mod Judging
+pub mod OwnSizes

@@ -5,21 +5,22 @@ use mathlib.Core.Logic.{⊎-elim}
 use mathlib.Core.List.{List}
 use native.Mathlib.Nat.{lt-of-lt-of-le, one-mul, add-zero}
 use native.Mathlib.Omega.{arith}
-use lib.ListN.{getD, replicate}
+use lib.ListN.{length, getD, replicate}
+use lib.Bits.{bitXor}
 use lib.Dec.{ltb}
 use lib.Pow.{pow-mono}
 use borrow.Author.Tests.{lt-ltb, le-ltb}
 use Rattle.bits.specs.Sums.{sumBelow, back}
 use Rattle.bits.specs.Digits.{bit, fromDigits, dot, shiftUp}
 use Rattle.bits.proofs.Sums.{sum-same, sum-cut, sum-more}
-use Rattle.bits.proofs.Lists.{part-at, zeros-at}
+use Rattle.bits.proofs.Lists.{put-length, put-at, zeros-at}
 use Rattle.bits.proofs.Back.{back-in, back-out, back-suc}
 use Rattle.bits.proofs.Cases.{cond-le, le-or-lt}
-use Rattle.bits.proofs.Digits.{bit-le, bit-lt, bit-zero, bit-suc, bit-mod, bit-high, bit-of-zero, from-digits-lt, from-digits-same, from-digits-bits}
+use Rattle.bits.proofs.Digits.{bit-le, bit-lt, bit-zero, bit-suc, bit-mod, bit-high, bit-of-zero, bit-shift, bit-xor, bit-from-digits, from-digits-lt, from-digits-same, from-digits-bits}
 use Rattle.bits.proofs.Words.{shift-digit, placed-fits}
 use Rattle.code.specs.Code.{generator, digit, parityAt, sentDigit, sentFrame}
 use Rattle.code.specs.Guarantees.{Guarantees}
-use Rattle.code.specs.Registers.{generatorMask, shiftIn, historyBy, parityBy, digitBy, frameBy}
+use Rattle.code.specs.Registers.{generatorMask, shiftIn, historyBy, parityBy, digitBy, frameBy, syndromesBy}
 use Rattle.code.specs.declared.Card.{Card}
 
 pub in-table : (g : List ℕ) (i j : ℕ) → i < 4 → j < 8 → generatorMask g i j ≡ getD g (i * 8 + j) 0
@@ -56,15 +57,20 @@ history-start c frames i a hi ha =
 pub history-later : (c : Card) (frames : List ℕ) (t : ℕ) (h : List ℕ) → HistoryWith c frames t h → HistoryBefore c frames (suc t) h
 history-later c frames t h w i a hi ha = w i a hi ha ∙ sym (back-suc (digit frames i) t a)
 
+-- a frame taken in leaves the registers as many as they are
+pub history-length : (h : List ℕ) (k f : ℕ) → length (historyBy h k f) ≡ length h
+unfolding historyBy
+history-length h k f = put-length k _ h
+
 module _ (c : Card) (G : Guarantees c) (frames : List ℕ) (t : ℕ) (h : List ℕ) where
   k-is : min (c .k) 4 ≡ c .k
   k-is = omega (arith, G .k-most)
 
   -- one frame more, which has the digits of time t
-  pub history-next : (f : ℕ) → ((i : ℕ) → i < c .k → bit f i ≡ digit frames i t) → HistoryBefore c frames t h → HistoryWith c frames t (historyBy h (c .k) f)
+  pub history-next : c .k ≤ length h → (f : ℕ) → ((i : ℕ) → i < c .k → bit f i ≡ digit frames i t) → HistoryBefore c frames t h
+      → HistoryWith c frames t (historyBy h (c .k) f)
   unfolding historyBy
-  history-next f hf H i a hi ha =
-      ap (λ (x : ℕ). bit x a) (part-at (λ b. shiftIn (getD h b 0) (bit f b)) (replicate 4 0) (min (c .k) 4) i (omega (arith, G .k-most))) ∙ digits a ha
+  history-next enough f hf H i a hi ha = ap (λ (x : ℕ). bit x a) (put-at (c .k) (λ b. shiftIn (getD h b 0) (bit f b)) h i hi (omega arith)) ∙ digits a ha
     where
       digits : (a : ℕ) → a < 32 → bit (shiftIn (getD h i 0) (bit f i)) a ≡ back (digit frames i) t a
       digits zero l = shift-first (getD h i 0) (bit f i) (bit-lt f i) ∙ hf i hi ∙ now
@@ -137,6 +143,24 @@ module _ (g h : List ℕ) (k f : ℕ) where
     frame-more-fits =
         placed-fits (fromDigits (min k 4 + j) (digitBy g h k f)) (parityBy g h k j) (min k 4 + j)
         (from-digits-lt (min k 4 + j) (digitBy g h k f) (λ s w. digit-by-lt s)) (omega (arith, parity-by-le g h k j)) l
+
+  -- a syndrome is the sum of the parity digit that is received and the one that is sent
+  syndrome-digit : (p j : ℕ) → j < min p (8 - min k 4) → bit (syndromesBy g h k p f) j ≡ (bit f (min k 4 + j) + parityBy g h k j) % 2
+  unfolding syndromesBy frameBy digitBy
+  syndrome-digit p j l =
+      let n = min k 4 + j in
+      let e : n - min k 4 ≡ j = omega arith in
+      bit-shift (bitXor f (frameBy g h k p f)) (min k 4) j
+      ∙ bit-xor f (frameBy g h k p f) n
+      ∙ ap (λ (x : ℕ). (bit f n + x) % 2)
+      (bit-from-digits (min k 4 + min p (8 - min k 4)) (digitBy g h k f) (λ s w. digit-by-lt s) n (omega arith) ∙ rw (le-ltb n (min k 4) (omega arith), e))
+
+pub syndrome-bit : (c : Card) → Guarantees c → (h : List ℕ) (f j : ℕ) → j < c .p
+    → bit (syndromesBy (c .generators) h (c .k) (c .p) f) j ≡ (bit f (c .k + j) + parityBy (c .generators) h (c .k) j) % 2
+syndrome-bit c G h f j l =
+    let e : min (c .k) 4 ≡ c .k = omega (arith, G .k-most) in
+    syndrome-digit (c .generators) h (c .k) f (c .p) j (omega (arith, G .k-most, G .n-most))
+    ∙ ap (λ (n : ℕ). (bit f (n + j) + parityBy (c .generators) h (c .k) j) % 2) e
 
 -- the frame of the registers is the code's
 module _ (c : Card) (G : Guarantees c) (frames : List ℕ) (t : ℕ) (h : List ℕ) (f : ℕ) (hf : (i : ℕ) → i < c .k → bit f i ≡ digit frames i t) (H : HistoryWith c frames t h) where

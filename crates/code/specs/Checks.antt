@@ -9,6 +9,7 @@ use lib.Dec.{ltb, eqb}
 use Rattle.bits.specs.Sums.{sumBelow, back}
 use Rattle.bits.specs.Digits.{bit}
 use Rattle.code.specs.Code.{generator}
+use Rattle.code.specs.Limits.{checkStart}
 use Rattle.code.specs.declared.Card.{Card}
 
 -- J, the number of checks for stream i
@@ -17,7 +18,7 @@ count c i = getD (c .counts) i 0
 
 -- a check is a set of pairs (a, j), written as one mask of offsets a for each parity stream j: that of check q of stream i
 unfoldable pub checkMask : Card → ℕ → ℕ → ℕ → ℕ
-checkMask c i q j = getD (c .checks) (i * 128 + q * 8 + j) 0
+checkMask c i q j = getD (c .checks) (checkStart i q + j) 0
 
 -- 1 if a check with these masks touches the information error (b, s): the sum of g (s, j, a - b) over its pairs (a, j) with a ≥ b
 unfoldable pub touchesInfo : Card → (ℕ → ℕ) → ℕ → ℕ → ℕ

@@ -4,7 +4,8 @@
 use Prim.Native.Nat.{ℕ, _+_, _*_, _^_, _≤_, _<_}
 use mathlib.Core.Path.{_≡_}
 use mathlib.Core.Logic.{_⊎_}
-use lib.ListN.{getD}
+use lib.ListN.{length, getD}
+use Rattle.code.specs.Limits.{mostChecks, checkWords, checkStart}
 use Rattle.code.specs.Checks.{count, Orthogonal}
 use Rattle.code.specs.declared.Card.{Card}
 
@@ -16,12 +17,14 @@ pub record Guarantees (c : Card) : Type 0 where
   pub n-most : c .k + c .p ≤ 8
   pub m-most : c .m ≤ 31
   pub J-least : (i : ℕ) → i < c .k → 1 ≤ count c i
-  pub J-most : (i : ℕ) → count c i ≤ 16
+  pub J-most : (i : ℕ) → count c i ≤ mostChecks
+  -- the tables are whole
+  pub checks-long : length (c .checks) ≡ checkWords
   -- no mask has a bit above m
   pub generators-within : (at : ℕ) → getD (c .generators) at 0 < 2 ^ (c .m + 1)
   pub checks-within : (at : ℕ) → getD (c .checks) at 0 < 2 ^ (c .m + 1)
   -- what the card does not state is zero
   pub generators-unused : (i j : ℕ) → j < 8 → (c .k ≤ i) ⊎ (c .p ≤ j) → getD (c .generators) (i * 8 + j) 0 ≡ 0
   pub counts-unused : (i : ℕ) → c .k ≤ i → count c i ≡ 0
-  pub checks-unused : (i q j : ℕ) → q < 16 → j < 8 → (count c i ≤ q) ⊎ (c .p ≤ j) → getD (c .checks) (i * 128 + q * 8 + j) 0 ≡ 0
+  pub checks-unused : (i q j : ℕ) → q < mostChecks → j < 8 → (count c i ≤ q) ⊎ (c .p ≤ j) → getD (c .checks) (checkStart i q + j) 0 ≡ 0
   pub orthogonal : (i : ℕ) → i < c .k → Orthogonal c i

@@ -1,64 +1,67 @@
 -- What the parts of a call come to together. Each law is stated over the parts' results, so that the functions' proofs stay small.
-use Prim.Native.Nat.{ℕ, _+_, _≤_, _<_, min}
+use Prim.Native.Nat.{ℕ, _+_, _/_, _≤_, _<_, min}
 use mathlib.Core.Path.{_≡_, refl, ap, _∙_}
 use mathlib.Core.Logic.{⊎-elim}
 use mathlib.Core.List.{List}
+use lib.ListN.{getD}
 use borrow.Author.Tests.{lt-ltb, le-ltb}
 use Rattle.bits.proofs.Cases.{le-or-lt}
-use Rattle.code.specs.Registers.{historyBy, movedOn}
 use Rattle.code.specs.declared.Card.{Card}
+use Rattle.code.specs.declared.Sizes.{Sizes}
 use Rattle.receiving.specs.Answers.{waiting, frame, Reply}
-use Rattle.receiving.specs.Readings.{streamsOf, Yield, yields, refuses}
-use Rattle.receiving.specs.Receive.{kOf, pOf, inTurn, admitOf, settledOf, refusedOf, receiveOf}
-use Rattle.voters.specs.ErasedDigits.{erasedWith, erasedMoved}
-use Rattle.voters.specs.declared.erased.Erased.{Erased}
-use Rattle.decoder.specs.Registers.{withSyndromes, errorsBy, correctedBy, takenOutBy, fedBackBy}
-use Rattle.decoder.specs.Held.{Step, heldWith, errorsIn, heldAfter, handedBy, takenBy, settledBy}
-use Rattle.decoder.specs.Receive.{heldIn, joined, withFrame, errorsOf, handingOf, takenOf, firstCircuit}
+use Rattle.receiving.specs.Readings.{Yield, yields, refuses}
+use Rattle.receiving.specs.Receive.{sizesIn, inTurn, admitOf, settledOf, refusedOf, receiveOf}
+use Rattle.vote.specs.ErasedDigits.{anyWith, erasedWith, erasedMoved}
+use Rattle.vote.specs.Voters.{decideMarked}
+use Rattle.vote.proofs.Voting.{decide-none}
+use Rattle.decoder.specs.Held.{Step, PutIn, heldWith, fedBack, heldAfter, correctedBy, handedBy, settledBy}
+use Rattle.decoder.specs.Receive.{withFrame, errorsOf, handingOf, takenOf, firstCircuit}
 use Rattle.decoder.specs.declared.Held.{Held}
 use Rattle.decoder.specs.declared.Session.{Session}
 
-module _ (g : List ℕ) (h : Held) (k p : ℕ) where
-  pub held-with : (n a f e : ℕ) {history syndromes : List ℕ} {erased : Erased} → history ≡ historyBy (h .history) k f
-      → syndromes ≡ withSyndromes (h .syndromes) g history k p f a → erased ≡ erasedWith (h .erased) e n a
-      → record { history = history; syndromes = syndromes; erased = erased } ≡ heldWith g h k p n a f e
+-- without a syndrome that is 1 no error is decided
+pub errors-none : (g counts checks y erased : List ℕ) (any : ℕ) (z : Sizes) → ((j : ℕ) → j < z .p → getD y j 0 ≡ 0) → decideMarked g counts checks y erased any z ≡ 0
+unfolding decideMarked
+errors-none g counts checks y erased any z none = decide-none checks y (z .p) none _ _ (z .k)
+
+-- a frame that is taken, by what its steps gave
+module _ (g counts checks : List ℕ) (h : Held) (z : Sizes) (received f e : ℕ) {place any : ℕ} {history syndromes erased : List ℕ} (at : place ≡ min received (z .m))
+    (put : PutIn g z place f (h .history) (h .syndromes) history syndromes) (ea : any ≡ anyWith (h .any) e place) (ee : erased ≡ erasedWith (h .erased) (h .any) e place) where
+  abbrev with : Held
+  with = record { history = history; syndromes = syndromes; erased = erased; any = any }
+
+  with-is : with ≡ heldWith g h z (min received (z .m)) f e
   unfolding heldWith
-  held-with n a f e eh es ee = cc (eh, es, ee)
+  with-is = cc (at, put .history-is, put .syndromes-are, ea, ee)
 
-  module _ (counts checks : List ℕ) where
-    pub handed-is : (m received : ℕ) {errors f : ℕ} {cleared syndromes : List ℕ} {erased : Erased}
-        → errors ≡ errorsBy g counts checks (h .syndromes) (h .erased .any) (h .erased .marks) k p → f ≡ correctedBy (h .history) errors k m
-        → cleared ≡ takenOutBy (h .syndromes) g errors k p → syndromes ≡ movedOn cleared → erased ≡ erasedMoved (h .erased)
-        → record { answer = frame f; held = record { history = h .history; syndromes = syndromes; erased = erased }; received = received }
-        ≡ handedBy g counts checks h k p m received
-    unfolding handedBy heldAfter errorsIn fedBackBy
-    handed-is m received ee ef et es em = cc (ee, ef, et, es, em)
+  pub waits : received < z .m → record { answer = waiting; held = with; received = received + 1 } ≡ settledBy g counts checks h z received (yields f e)
+  unfolding settledBy
+  waits l = rw (lt-ltb received (z .m) l) (ap (λ (x : Held). record { answer = waiting; held = x; received = received + 1 }) with-is)
 
-    module _ (n m received f e : ℕ) {place : ℕ} {next : Held} (at : place ≡ min received m) (with-frame : next ≡ heldWith g h k p n place f e) where
-      next-is : next ≡ heldWith g h k p n (min received m) f e
-      next-is = with-frame ∙ ap (λ (a : ℕ). heldWith g h k p n a f e) at
-
-      pub taken-waits : received < m → record { answer = waiting; held = next; received = received + 1 } ≡ takenBy g counts checks h k p n m received f e
-      unfolding takenBy
-      taken-waits l = rw (lt-ltb received m l) (ap (λ (x : Held). record { answer = waiting; held = x; received = received + 1 }) next-is)
-
-      pub taken-hands : {s : Step} → m ≤ received → s ≡ handedBy g counts checks next k p m (received + 1) → s ≡ takenBy g counts checks h k p n m received f e
-      unfolding takenBy
-      taken-hands l q = rw (le-ltb received m l) (q ∙ ap (λ (x : Held). handedBy g counts checks x k p m (received + 1)) next-is)
+  pub hands : {errors out later : ℕ} {fed moved : List ℕ} → z .m ≤ received → errors ≡ decideMarked g counts checks syndromes erased any z
+      → out ≡ correctedBy history errors (z .k) (z .m) → fed ≡ fedBack g syndromes z errors → later ≡ any / 2 → moved ≡ erasedMoved erased any
+      → record { answer = frame out; held = record { history = history; syndromes = fed; erased = moved; any = later }; received = received + 1 }
+      ≡ settledBy g counts checks h z received (yields f e)
+  unfolding settledBy
+  hands {errors} {out} {later} {fed} {moved} l er eo ef el em =
+      rw (le-ltb received (z .m) l) (handed ∙ ap (λ (x : Held). handedBy g counts checks x z (received + 1)) with-is)
+    where
+      handed : record { answer = frame out; held = record { history = history; syndromes = fed; erased = moved; any = later }; received = received + 1 }
+          ≡ handedBy g counts checks with z (received + 1)
+      handed = unfold handedBy heldAfter in cc (er, eo, ef, el, em)
 
 -- ---- the whole session
 
 -- a step's reply
 abbrev pub reply : Card → Step → Reply Session
-reply c s = record { answer = s .answer; session = joined c (s .held) (s .received) }
+reply c s = record { answer = s .answer; session = record { card = c; held = s .held; received = s .received } }
 
 module _ (s : Session) where
   abbrev stepIn : Yield → Step
-  stepIn y =
-      settledBy (s .card .generators) (s .card .counts) (s .card .checks) (heldIn s) (kOf (s .card)) (pOf (s .card)) (streamsOf (s .card .k) (s .card .p)) (s .card .m) (s .received) y
+  stepIn y = settledBy (s .card .generators) (s .card .counts) (s .card .checks) (s .held) (sizesIn (s .card)) (s .received) y
 
   taken-is : (f e : ℕ) → reply (s .card) (stepIn (yields f e)) ≡ takenOf s f e
-  unfolding settledBy takenBy handedBy takenOf inTurn withFrame handingOf errorsOf
+  unfolding settledBy handedBy takenOf inTurn withFrame handingOf errorsOf
   taken-is f e =
       ⊎-elim (λ (l : s .card .m ≤ s .received). rw (le-ltb (s .received) (s .card .m) l)) (λ (l : s .received < s .card .m). rw (lt-ltb (s .received) (s .card .m) l))
       (le-or-lt (s .card .m) (s .received))
@@ -67,14 +70,12 @@ module _ (s : Session) where
   settled-is (yields f e) = unfold settledOf in taken-is f e
   settled-is (refuses n) = unfold settledBy settledOf refusedOf in refl
 
-  pub receives : (number : ℕ) (y : Yield) {a : Yield} {k p n : ℕ} {step : Step} → a ≡ admitOf (s .card .number) (s .received) number y → k ≡ min (s .card .k) 4
-      → p ≡ min (s .card .p) 8 → n ≡ streamsOf (s .card .k) (s .card .p)
-      → step ≡ settledBy (s .card .generators) (s .card .counts) (s .card .checks) (heldIn s) k p n (s .card .m) (s .received) a
+  pub receives : (number : ℕ) (y : Yield) {a : Yield} {z : Sizes} {step : Step} → a ≡ admitOf (s .card .number) (s .received) number y → z ≡ sizesIn (s .card)
+      → step ≡ settledBy (s .card .generators) (s .card .counts) (s .card .checks) (s .held) z (s .received) a
       → reply (s .card) step ≡ receiveOf firstCircuit s number y
   unfolding receiveOf
-  receives number y {a} {k} {p} {n} {step} ea ek ep en es =
+  receives number y {a} {z} {step} ea ez es =
       ap (reply (s .card)) (es ∙ steps) ∙ settled-is (admitOf (s .card .number) (s .received) number y)
     where
-      steps : settledBy (s .card .generators) (s .card .counts) (s .card .checks) (heldIn s) k p n (s .card .m) (s .received) a
-          ≡ stepIn (admitOf (s .card .number) (s .received) number y)
-      steps = cc (ea, ek, ep, en)
+      steps : settledBy (s .card .generators) (s .card .counts) (s .card .checks) (s .held) z (s .received) a ≡ stepIn (admitOf (s .card .number) (s .received) number y)
+      steps = cc (ea, ez)

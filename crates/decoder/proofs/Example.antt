@@ -3,14 +3,15 @@
 use Prim.Native.Nat.{ℕ}
 use mathlib.Core.Path.{_≡_, refl, sym, ap, ap₂, _∙_, subst}
 use mathlib.Core.List.{List, [], _∷_}
-use Rattle.bits.specs.Sums.{sumBelow, xorBelow, upTo, back, grown}
+use lib.Count.{ones}
+use Rattle.bits.specs.Sums.{sumBelow, xorBelow, upTo, putFirst, back, grown}
 use Rattle.bits.specs.Digits.{bit, fromDigits, dot, shiftUp}
 use Rattle.code.specs.Bench.{P, T}
 use Rattle.code.specs.Code.{generator, digit, parityAt}
 use Rattle.code.specs.Checks.{count, checkMask, touchesInfo, touchesBy, besides}
-use Rattle.code.specs.Judging.{clashes, judge}
-use Rattle.code.specs.Registers.{generatorMask, generatorSum, shiftIn, historyBy, parityBy, withDigits, movedOn}
-use Rattle.vote.specs.Voting.{checkBy, votesBy, majorityBy, decideBy}
+use Rattle.code.specs.Judging.{clashes}
+use Rattle.code.specs.Registers.{generatorMask, generatorSum, shiftIn, historyBy, parityBy, digitBy, frameBy, syndromesBy, feedbackBy, withDigits, withWords, movedOn}
+use Rattle.vote.specs.Voting.{checkBy, onesBy, ifWhole, majorityBy, decideBy}
 use Rattle.majority.specs.AsSent.{Correctable}
 use Rattle.majority.specs.Rule.{syndrome, cleared, checkAt, voting, voters, votes, decide, decideFrame, decided, corrected, decoded, figureBy}
 use Rattle.receiving.specs.Answers.{waiting, frame, refused}
@@ -22,10 +23,9 @@ use Rattle.receiving.specs.Example.{callsP-first, callsP, callsP-two-errors, ca
 use Rattle.receiving.proofs.Example as example
 use Rattle.receiving.proofs.Example.{Takes, TakesFaint}
 use Rattle.orthogonal.specs.Pass.{holds}
-use Rattle.voters.specs.Voters.{masksAt, votingBy, votersBy, onesBy, majorityVotingBy, decideVotingBy}
-use Rattle.voters.specs.ErasedDigits.{erasedWith, erasedMoved}
-use Rattle.decoder.specs.Registers.{syndromeBy, withSyndromes, errorsBy, correctedDigit, correctedBy, clearedBy, takenOutBy, fedBackBy}
-use Rattle.decoder.specs.Held.{heldWith, errorsIn, heldAfter}
+use Rattle.vote.specs.Voters.{allVoting, votingBy, streamVotersBy, votersBy, decideMarked}
+use Rattle.vote.specs.ErasedDigits.{anyWith, erasedWith, erasedMoved}
+use Rattle.decoder.specs.Held.{withSyndromes, fedBack, heldWith, heldAfter, correctedDigit, correctedBy}
 use Rattle.decoder.specs.Receive.{errorsOf, withFrame, handingOf, takenOf, firstCircuit}
 use Rattle.decoder.specs.Claims.{Claims}
 use Rattle.decoder.specs.Example.{FigureOfP}
@@ -51,7 +51,7 @@ taken-at =
 
 -- the answers, call by call: the second circuit's session is to give the same
 pub answers-P : answers firstCircuit (openOf firstCircuit P) callsP ≡ waiting ∷ frame 1 ∷ refused 14 ∷ refused 11 ∷ frame 0 ∷ refused 14 ∷ refused 12 ∷ frame 1 ∷ []
-unfolding sumBelow xorBelow upTo back bit fromDigits dot shiftUp generator touchesInfo touchesBy besides clashes judge generatorMask generatorSum shiftIn historyBy parityBy withDigits movedOn checkBy votesBy majorityBy decideBy holds masksAt votingBy votersBy onesBy majorityVotingBy decideVotingBy erasedWith erasedMoved syndromeBy withSyndromes errorsBy correctedDigit correctedBy clearedBy takenOutBy fedBackBy heldWith errorsIn heldAfter errorsOf inBand digitOfLevel digitOf digitIn markIn faultIn faults frameRead erasedRead readByteOf readFrameOf openOf withFrame handingOf takenOf inTurn admitOf refusedOf settledOf receiveOf receiveByteOf receiveReadingsOf replyOf answers
+unfolding sumBelow xorBelow upTo putFirst back bit fromDigits dot shiftUp generator touchesInfo touchesBy besides clashes generatorMask generatorSum shiftIn historyBy parityBy digitBy frameBy syndromesBy feedbackBy withDigits withWords movedOn checkBy onesBy ifWhole majorityBy decideBy holds allVoting votingBy streamVotersBy votersBy anyWith erasedWith erasedMoved correctedDigit correctedBy withSyndromes decideMarked fedBack heldWith heldAfter errorsOf inBand digitOfLevel digitOf digitIn markIn faultIn faults frameRead erasedRead readByteOf readFrameOf openOf withFrame handingOf takenOf inTurn admitOf refusedOf settledOf receiveOf receiveByteOf receiveReadingsOf replyOf answers ones
 answers-P = refl
 
 takes : {s t : Session} → s ≡ t → (calls : List Call) {frames erased : List ℕ} → Takes firstCircuit t calls frames erased → Takes firstCircuit s calls frames erased

@@ -1,4 +1,3 @@
-pub mod Deciding
 pub mod Step
 pub mod Composed
 pub mod Follow

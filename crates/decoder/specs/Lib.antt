@@ -1,4 +1,3 @@
-pub mod Registers
 pub mod Held
 pub mod Receive
 pub mod Claims

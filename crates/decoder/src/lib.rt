@@ -1,28 +1,37 @@
-// The receiving session: frames in, frames out, by Massey's majority rule with feedback.
+// The receiving session: frames in, frames out, by Massey's majority rule with feedback. A frame's way is three steps, and each takes what is held and a few
+// small values, the card's tables by reference: it is put in, the errors of the frame m before it are decided, and that frame is handed out with them fed
+// back.
 mod registers;
 
 use card::CardRule;
 use card::Verdict;
 use code::Card;
+use code::Sizes;
 use receiving::Answer;
 use receiving::ReadFrame;
 use receiving::Reading;
-use voters::erased::Erased;
 ghost use mathlib.Core.Path.{_≡_};
 ghost use Prim.Native.Nat.{ℕ, _<_, _≤_};
 ghost use Rattle.code.specs.Code.{mostFrames};
 ghost use Rattle.receiving.specs.Readings.{yields, frameYieldOf};
-ghost use Rattle.receiving.specs.Receive.{receiveOf, receiveByteOf, receiveReadingsOf};
-ghost use Rattle.decoder.specs.Held.{stepOf, heldWith, handedBy, takenBy, settledBy};
+ghost use Rattle.receiving.specs.Receive.{sizesIn, receiveOf, receiveByteOf, receiveReadingsOf};
+ghost use Rattle.vote.specs.Voters.{decideMarked};
+ghost use Rattle.decoder.specs.Held.{stepOf, PutIn, fedBack, settledBy};
 ghost use Rattle.decoder.specs.Opening.{OpenPromise, receivedOf};
 ghost use Rattle.decoder.specs.Receive.{freshOf, firstCircuit, linkFigureOf};
 
-// What a session holds between two calls.
-pub struct Session {
-    pub card: Card,
+// What a session holds of the frames that it took.
+pub struct Held {
     pub history: [u32; 4], // bit a of register i: information digit i of the frame a before the last one received
     pub syndromes: [u32; 8], // bit a of register j: the syndrome of parity stream j, a after the frame that is decided next
-    pub erased: Erased, // which digits from that frame on are erased
+    pub erased: [u32; 8], // bit a of register s: whether the digit of stream s is erased, a after that frame
+    pub any: u32, // bit a: whether some digit is, a after that frame
+}
+
+// What a session is between two calls.
+pub struct Session {
+    pub card: Card,
+    pub held: Held,
     pub received: u32, // how many frames were taken
 }
 
@@ -44,10 +53,10 @@ fn fresh(card: Card, received: u32) -> Session
 {
     Session {
         card,
-        history: [0u32; 4],
-        syndromes: [0u32; 8],
-        erased: Erased {
-            marks: [0u32; 8],
+        held: Held {
+            history: [0u32; 4],
+            syndromes: [0u32; 8],
+            erased: [0u32; 8],
             any: 0,
         },
         received,
@@ -64,12 +73,47 @@ pub fn open(card: &[u8]) -> Opened
     Opened { verdict, session }
 }
 
-// What a session holds besides its card and the count of frames. The functions below take this, and the card's tables by reference: a whole session is
-// copied wherever it is handed on.
-struct Held {
-    history: [u32; 4],
-    syndromes: [u32; 8],
-    erased: Erased,
+// Puts a frame in at a place: its information digits, and the syndromes that they and its parity digits give.
+fn put_in(
+    history: &mut [u32],
+    syndromes: &mut [u32],
+    generators: &[u32],
+    sizes: Sizes,
+    place: usize,
+    frame: u32,
+)
+    ensures { λ _. ⌜ PutIn (now (generators .entry)) sizes place frame (now (history .entry)) (now (syndromes .entry)) (now (history .exit)) (now (syndromes .exit)) ⌝ }
+{
+    code::put_history(history, sizes.k, frame);
+    let new = code::syndromes(generators, history, sizes.k, sizes.p, frame);
+    code::put_digits(syndromes, new, place);
+}
+
+// The decided errors of the frame that is decided next. While no syndrome held is 1 there is no vote.
+fn errors<'a>(
+    generators: &'a [u32],
+    counts: &'a [u32],
+    checks: &'a [u32],
+    syndromes: &[u32],
+    erased: &[u32],
+    any: u32,
+    sizes: Sizes,
+) -> u32
+    ensures { λ r. ⌜ r ≡ decideMarked (now (generators .entry)) (now (counts .entry)) (now (checks .entry)) (now (syndromes .entry)) (now (erased .entry)) any sizes ⌝ }
+{
+    if registers::together(syndromes, sizes.p) == 0 {
+        return 0;
+    }
+    vote::decide_marked(generators, counts, checks, syndromes, erased, any, sizes)
+}
+
+// Takes the decided errors out of the syndromes, and moves these on to the next frame.
+fn feed_back(syndromes: &mut [u32], generators: &[u32], sizes: Sizes, errors: u32)
+    ensures { λ _. ⌜ now (syndromes .exit) ≡ fedBack (now (generators .entry)) (now (syndromes .entry)) sizes errors ⌝ }
+{
+    let changes = code::feedback(generators, sizes.k, sizes.p, errors);
+    code::add_words(syndromes, &changes);
+    code::move_on(syndromes);
 }
 
 // What a frame comes to: the answer, what is held then, and how many frames were taken.
@@ -79,177 +123,98 @@ struct Settled {
     received: u32,
 }
 
-// With the digits, the syndromes and the marks of a frame more, and nothing decided yet.
-fn with_frame(
-    generators: &[u32; 32],
-    s: Held,
-    k: usize,
-    p: usize,
-    n: usize,
-    place: usize,
-    frame: u8,
-    marks: u8,
-) -> Held
-    requires { ⌜ (k ≤ 4) × (p ≤ 8) ⌝ }
-    ensures { λ r. ⌜ r ≡ heldWith (now (generators .entry)) s k p n place frame marks ⌝ }
-{
-    let before = s.history;
-    let held = s.syndromes;
-    let digits = frame as u32;
-    let history = code::history(&before, k, digits);
-    let syndromes = registers::with_syndromes(&held, generators, &history, k, p, digits, place);
-    let erased = voters::erased::with_frame(s.erased, marks as u32, n, place);
-    Held {
-        history,
-        syndromes,
-        erased,
-    }
-}
-
-// The frame m before the last one received, with its errors decided, and what is held with these fed back.
-fn hand_out<'a>(
-    generators: &'a [u32; 32],
-    counts: &'a [usize; 4],
-    checks: &'a [u32; 512],
-    s: Held,
-    k: usize,
-    p: usize,
-    m: usize,
-    received: u32,
-) -> Settled
-    requires { ⌜ (k ≤ 4) × (p ≤ 8) ⌝ }
-    ensures { λ r. ⌜ stepOf r ≡ handedBy (now (generators .entry)) (now (counts .entry)) (now (checks .entry)) s k p m received ⌝ }
-{
-    let history = s.history;
-    let held = s.syndromes;
-    let erased = s.erased;
-    let marks = erased.marks;
-    let errors = registers::errors(generators, counts, checks, &held, erased.any, &marks, k, p);
-    let frame = registers::corrected(&history, errors, k, m);
-    let cleared = registers::taken_out(&held, generators, errors, k, p);
-    let syndromes = code::moved_on(&cleared);
-    let later = voters::erased::moved_on(erased);
-    Settled {
-        answer: Answer::Frame(frame),
-        held: Held {
-            history,
-            syndromes,
-            erased: later,
-        },
-        received,
-    }
-}
-
-// A frame that is not refused, and which of its digits are erased: the first m give 'waiting', each later one the frame m before it.
-fn take<'a>(
-    generators: &'a [u32; 32],
-    counts: &'a [usize; 4],
-    checks: &'a [u32; 512],
-    s: Held,
-    k: usize,
-    p: usize,
-    n: usize,
-    m: usize,
-    received: u32,
-    frame: u8,
-    marks: u8,
-) -> Settled
-    requires { ⌜ (k ≤ 4) × (p ≤ 8) × (received < mostFrames) ⌝ }
-    ensures { λ r. ⌜ stepOf r ≡ takenBy (now (generators .entry)) (now (counts .entry)) (now (checks .entry)) s k p n m received frame marks ⌝ }
-{
-    let place = bits::at_most(received as usize, m);
-    let next = with_frame(generators, s, k, p, n, place, frame, marks);
-    let count = received + 1;
-    if (received as usize) < m {
-        return Settled {
-            answer: Answer::Waiting,
-            held: next,
-            received: count,
-        };
-    }
-    hand_out(generators, counts, checks, next, k, p, m, count)
-}
-
-// A frame that is admitted is taken. A refused call leaves what is held as it was.
+// A frame that is admitted is taken: the first m give 'waiting', each later one the frame m before it. A refused call leaves what is held as it was. The
+// registers are changed where they stand, since what was just stored word by word is slow to copy.
 fn settle<'a>(
-    generators: &'a [u32; 32],
-    counts: &'a [usize; 4],
-    checks: &'a [u32; 512],
-    s: Held,
-    k: usize,
-    p: usize,
-    n: usize,
-    m: usize,
+    generators: &'a [u32],
+    counts: &'a [u32],
+    checks: &'a [u32],
+    held: Held,
+    sizes: Sizes,
     received: u32,
     admitted: ReadFrame,
 ) -> Settled
-    requires { ⌜ (k ≤ 4) × (p ≤ 8) × ((f e : ℕ) → frameYieldOf admitted ≡ yields f e → received < mostFrames) ⌝ }
-    ensures { λ r. ⌜ stepOf r ≡ settledBy (now (generators .entry)) (now (counts .entry)) (now (checks .entry)) s k p n m received (frameYieldOf admitted) ⌝ }
+    requires { ⌜ (sizes .k ≤ 4) × ((f e : ℕ) → frameYieldOf admitted ≡ yields f e → received < mostFrames) ⌝ }
+    ensures { λ r. ⌜ stepOf r ≡ settledBy (now (generators .entry)) (now (counts .entry)) (now (checks .entry)) held sizes received (frameYieldOf admitted) ⌝ }
 {
+    let mut history = held.history;
+    let mut syndromes = held.syndromes;
+    let mut erased = held.erased;
     match admitted {
-        ReadFrame::Frame { digits, erased } => {
-            take(
+        ReadFrame::Frame {
+            digits,
+            erased: marks,
+        } => {
+            let place = bits::at_most(received as usize, sizes.m);
+            let taken = received + 1;
+            put_in(
+                &mut history,
+                &mut syndromes,
                 generators,
-                counts,
-                checks,
-                s,
-                k,
-                p,
-                n,
-                m,
-                received,
-                digits,
-                erased,
-            )
+                sizes,
+                place,
+                digits as u32,
+            );
+            let any = vote::erased::put(&mut erased, held.any, marks as u32, place);
+            if (received as usize) < sizes.m {
+                return Settled {
+                    answer: Answer::Waiting,
+                    held: Held {
+                        history,
+                        syndromes,
+                        erased,
+                        any,
+                    },
+                    received: taken,
+                };
+            }
+            let wrong = errors(generators, counts, checks, &syndromes, &erased, any, sizes);
+            let frame = registers::corrected(&history, wrong, sizes.k, sizes.m);
+            feed_back(&mut syndromes, generators, sizes, wrong);
+            let later = vote::erased::move_on(&mut erased, any);
+            Settled {
+                answer: Answer::Frame(frame),
+                held: Held {
+                    history,
+                    syndromes,
+                    erased,
+                    any: later,
+                },
+                received: taken,
+            }
         }
         ReadFrame::Refused(refusal) => Settled {
             answer: Answer::Refused(refusal),
-            held: s,
+            held,
             received,
         },
     }
 }
 
-// A frame, or its own refusal, under a card number: taken or refused. The session is made anew in one place.
-fn receive(s: Session, number: u8, read: ReadFrame) -> Received
+// A frame, or its own refusal, under a card number: taken or refused.
+fn receive(s: Session, sizes: Sizes, number: u8, read: ReadFrame) -> Received
+    requires { ⌜ sizes ≡ sizesIn (s .card) ⌝ }
     ensures { λ r. ⌜ receivedOf r ≡ receiveOf firstCircuit s number (frameYieldOf read) ⌝ }
 {
     let card = s.card;
-    let before = s.history;
-    let held = s.syndromes;
-    let marked = s.erased;
+    let held = s.held;
     let admitted = receiving::admit(card.number, s.received, number, read);
-    let k = bits::at_most(card.k, 4);
-    let p = bits::at_most(card.p, 8);
-    let n = receiving::stream_count(card.k, card.p);
     let settled = settle(
         &card.generators,
         &card.counts,
         &card.checks,
-        Held {
-            history: before,
-            syndromes: held,
-            erased: marked,
-        },
-        k,
-        p,
-        n,
-        card.m,
+        held,
+        sizes,
         s.received,
         admitted,
     );
     let answer = settled.answer;
-    let next = settled.held;
-    let history = next.history;
-    let syndromes = next.syndromes;
-    let erased = next.erased;
+    let after = settled.held;
     Received {
         answer,
         session: Session {
             card,
-            history,
-            syndromes,
-            erased,
+            held: after,
             received: settled.received,
         },
     }
@@ -259,25 +224,24 @@ fn receive(s: Session, number: u8, read: ReadFrame) -> Received
 pub fn receive_byte(s: Session, number: u8, frame: u8) -> Received
     ensures { λ r. ⌜ receivedOf r ≡ receiveByteOf firstCircuit s number frame ⌝ }
 {
-    let card = s.card;
-    let read = receiving::read_byte(frame, card.k, card.p);
-    receive(s, number, read)
+    let sizes = code::sizes_of(s.card.k, s.card.p, s.card.m);
+    receive(s, sizes, number, receiving::read_byte(frame, sizes.n))
 }
 
 // Receives a frame as eight readings, sent under a card number. Readings after the n-th are not looked at.
 pub fn receive_readings(s: Session, number: u8, readings: [Reading; 8]) -> Received
     ensures { λ r. ⌜ receivedOf r ≡ receiveReadingsOf firstCircuit s number readings ⌝ }
 {
-    let card = s.card;
-    let read = receiving::read_frame(readings, card.k, card.p);
-    receive(s, number, read)
+    let sizes = code::sizes_of(s.card.k, s.card.p, s.card.m);
+    receive(s, sizes, number, receiving::read_frame(readings, sizes.n))
 }
 
 // The link figure: the count of ones in the syndromes that the session still holds.
 pub fn link_figure(s: Session) -> u32
     ensures { λ r. ⌜ r ≡ linkFigureOf s ⌝ }
 {
-    let card = s.card;
-    let held = s.syndromes;
-    registers::ones(&held, bits::at_most(card.p, 8))
+    let sizes = code::sizes_of(s.card.k, s.card.p, s.card.m);
+    let held = s.held;
+    let syndromes = held.syndromes;
+    registers::ones(&syndromes, sizes.p)
 }

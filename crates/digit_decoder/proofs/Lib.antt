@@ -1,4 +1,3 @@
-pub mod Votes
 pub mod Loops
 pub mod Step
 pub mod Composed

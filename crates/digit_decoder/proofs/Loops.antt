@@ -1,10 +1,10 @@
 -- The loops on the registers: a stream's share of the sums, one term of the generator after the other, and the frame, one digit after the other.
-use Prim.Native.Nat.{ℕ, _-_, _*_, _/_, _+_, _%_, _^_, _≤_, _<_, min}
+use Prim.Native.Nat.{ℕ, _-_, _*_, _/_, _+_, _%_, _^_, _≤_, _<_}
 use mathlib.Core.Path.{_≡_, sym, ap, ap₂, _∙_}
 use mathlib.Core.List.{List}
-use native.Mathlib.Nat.{le-antisymm}
 use native.Mathlib.Omega.{arith}
 use lib.Bits.{bitXor, xor-lt}
+use lib.Count.{ones}
 use lib.Dec.{ltb}
 use lib.ListN.{getD}
 use lib.Pow.{pow-mono}
@@ -12,8 +12,12 @@ use Rattle.bits.specs.Sums.{xorBelow}
 use Rattle.bits.specs.Digits.{bit, fromDigits, shiftUp}
 use Rattle.bits.proofs.Cases.{cond-le}
 use Rattle.bits.proofs.Digits.{bit-le, bit-high, halved-whole, from-digits-lt}
-use Rattle.bits.proofs.Words.{xor-more, xor-cut, mask-times-lt}
-use Rattle.digit_decoder.specs.Registers.{shareBy, sumsBy, othersBy, ownOf, enteringBy, votingOf, onesOf, majorityDigit, decideDigitBy, decideFrameBy}
+use Rattle.bits.proofs.Words.{xor-more, xor-cut, mask-times-lt, placed-fits, placed-more}
+use Rattle.code.specs.declared.Sizes.{Sizes}
+use Rattle.vote.specs.Voters.{votersBy}
+use Rattle.vote.specs.Voting.{streamOnesBy}
+use Rattle.digit_decoder.specs.Held.{shareBy, sumsBy, othersBy, ownOf, enteringBy, majorityDigit, decideDigitBy, decideFrameBy, decidedIn}
+use Rattle.digit_decoder.specs.declared.Held.{Held}
 
 -- ---- a stream's share of the sums
 
@@ -39,35 +43,33 @@ module _ (g r d : ℕ) where
       e ∙ sym (xor-cut 32 l shareOf h (λ b k. ap (λ n. bitXor (shiftUp r b) (d / 2 ^ (32 - b)) * n) (bit-high g l b (halved-whole g l z) k) ∙ omega arith))
 
 -- ---- the frame as it is decided
-pub digit-le : (n ones own : ℕ) → own ≤ 1 → majorityDigit n ones own ≤ 1
+pub digit-le : (voting one own : ℕ) → own ≤ 1 → majorityDigit voting one own ≤ 1
 unfolding majorityDigit
-digit-le n ones own h = cond-le (ltb n (2 * ones)) 1 _ 1 (omega arith) (cond-le (ltb (2 * ones) n) 0 own 1 (omega arith) h)
+digit-le voting one own h = cond-le (ltb (ones voting) (2 * ones one)) 1 _ 1 (omega arith) (cond-le (ltb (2 * ones one) (ones voting)) 0 own 1 (omega arith) h)
 
-module _ (counts checks g r sums : List ℕ) (any : ℕ) (marks : List ℕ) (k p : ℕ) where
-  pub decided-lt : (i : ℕ) → decideDigitBy counts checks g r sums any marks k p i < 2
+module _ (g checks voters r sums : List ℕ) (p : ℕ) where
+  pub decided-lt : (i : ℕ) → decideDigitBy g checks voters r sums p i < 2
   unfolding decideDigitBy
   decided-lt i =
-      let n = min (getD counts i 0) 16 in
-      let l = digit-le (votingOf g checks i n any marks k p) (onesOf g checks i n (enteringBy g r sums p i) any marks k p) (ownOf r i) (bit-le _ 0) in omega arith
+      let l = digit-le (getD voters i 0) (streamOnesBy checks i (getD voters i 0) (enteringBy g r sums p i) p) (ownOf r i) (bit-le _ 0) in omega arith
 
-  -- what a turn works out
-  pub decided-is : (i : ℕ) {own n voting ones digit : ℕ} {words : List ℕ} → own ≡ ownOf r i → words ≡ othersBy sums g own i p → n ≡ min (getD counts i 0) 16
-      → voting ≡ votingOf g checks i n any marks k p → ones ≡ onesOf g checks i n words any marks k p → digit ≡ majorityDigit voting ones own
-      → digit ≡ decideDigitBy counts checks g r sums any marks k p i
-  unfolding decideDigitBy enteringBy
-  decided-is i eo ew en ev eq ed = cc (eo, ew, en, ev, eq, ed)
+  -- one stream more
+  module _ (i : ℕ) {own voting one d up frame : ℕ} {words : List ℕ} (h : i < 32) (so-far : frame ≡ fromDigits i (decideDigitBy g checks voters r sums p))
+      (eo : own ≡ ownOf r i) (ew : words ≡ othersBy sums g own i p) (ev : voting ≡ getD voters i 0) (en : one ≡ streamOnesBy checks i voting words p)
+      (ed : d ≡ majorityDigit voting one own) (eu : up ≡ shiftUp d i) where
+    digit-is : d ≡ decideDigitBy g checks voters r sums p i
+    unfolding decideDigitBy enteringBy
+    digit-is = cc (eo, ew, ev, en, ed)
 
-module _ (counts checks g r d : List ℕ) (any : ℕ) (marks : List ℕ) (k p : ℕ) where
-  decide-lt : decideFrameBy counts checks g r d any marks k p < 2 ^ k
-  unfolding decideFrameBy
-  decide-lt = from-digits-lt k _ (λ i l. decided-lt counts checks g r (sumsBy g r d k p) any marks k p i)
+    pub frame-more : (frame + up < 2 ^ 32) × (frame + up ≡ fromDigits (i + 1) (decideDigitBy g checks voters r sums p))
+    frame-more =
+        let le : frame < 2 ^ i = rw so-far (from-digits-lt i _ (λ a l. decided-lt a)) in
+        let ld : d < 2 = rw digit-is (decided-lt i) in
+        rw eu (placed-fits frame d i le ld h, placed-more frame d i le ld h _ so-far digit-is)
 
-  -- a frame of at most four digits is a byte
-  pub decide-fits : {frame : ℕ} → k ≤ 4 → frame ≡ decideFrameBy counts checks g r d any marks k p → frame < 2 ^ 8
-  decide-fits l e = omega (arith, decide-lt, pow-mono {i = k} {j = 4} l)
-
-  -- the end: every stream is decided
-  pub decide-end : {i frame : ℕ} {sums : List ℕ} → i ≤ k → k ≤ i → sums ≡ sumsBy g r d k p → frame ≡ fromDigits i (decideDigitBy counts checks g r sums any marks k p)
-      → frame ≡ decideFrameBy counts checks g r d any marks k p
-  unfolding decideFrameBy
-  decide-end l h s e = e ∙ ap₂ (λ n sums. fromDigits n (decideDigitBy counts checks g r sums any marks k p)) (le-antisymm l h) s
+-- a frame of at most four digits is a byte
+pub decided-fits : (g counts checks : List ℕ) (h : Held) (z : Sizes) {frame : ℕ} → z .k ≤ 4 → frame ≡ decidedIn g counts checks h z → frame < 2 ^ 8
+unfolding decidedIn decideFrameBy
+decided-fits g counts checks h z l e =
+    let below = from-digits-lt (z .k) _ (λ i l. decided-lt g checks (votersBy g counts checks (h .erased) (h .any) (z .k) (z .p)) (h .digits) (sumsBy g (h .digits) (h .decided) (z .k) (z .p)) (z .p) i) in
+    omega (arith, below, pow-mono {i = z .k} {j = 4} l)

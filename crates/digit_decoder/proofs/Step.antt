@@ -7,22 +7,24 @@ use mathlib.Core.Logic.{⊎-elim}
 use mathlib.Core.List.{List}
 use native.Mathlib.Nat.{add-zero, one-mul, mul-comm, add-mod-mod}
 use native.Mathlib.Omega.{arith}
-use lib.ListN.{getD, replicate}
+use lib.ListN.{length, getD, replicate}
 use lib.Bits.{bitXor}
+use lib.Count.{ones}
 use lib.Dec.{ltb}
 use borrow.Author.Tests.{lt-ltb, le-ltb}
 use Rattle.bits.specs.Sums.{sumBelow, back}
-use Rattle.bits.specs.Digits.{bit, dot, shiftUp}
+use Rattle.bits.specs.Digits.{bit, dot, fromDigits, shiftUp}
 use Rattle.bits.proofs.Back.{back-in, back-out, back-suc}
 use Rattle.bits.proofs.Cases.{le-or-lt, last-or-below}
 use Rattle.bits.proofs.Digits.{bit-lt, bit-suc, bit-shift, bit-high, bit-xor, bit-xors, bit-masks, bit-times, place-same, place-other, from-digits-same}
 use Rattle.bits.proofs.Held.{held, held-in}
-use Rattle.bits.proofs.Lists.{part-at}
+use Rattle.bits.proofs.Lists.{upTo-length, upTo-at, part-at, part-length}
 use Rattle.bits.proofs.Sums.{sum-same, sum-cong, sum-mod, sum-cut, sum-one-more, mul-mod-left}
 use Rattle.bits.proofs.Words.{bit-up, bit-up-low, shift-digit}
 use Rattle.code.specs.Code.{generator, digit}
 use Rattle.code.specs.Checks.{count, checkMask, besides}
 use Rattle.code.specs.Guarantees.{Guarantees}
+use Rattle.code.specs.Limits.{checkStart}
 use Rattle.code.specs.Registers.{generatorMask}
 use Rattle.code.specs.declared.Card.{Card}
 use Rattle.code.proofs.Besides.{besides-own, besides-other}
@@ -30,13 +32,11 @@ use Rattle.code.proofs.ParityLaws.{paritySum}
 use Rattle.code.proofs.Registers.{in-table, generator-beyond}
 use Rattle.code.proofs.StreamRegisters.{DigitsAt}
 use Rattle.majority.specs.SecondCircuit.{entering, vote, votesForOne, decideDigit, decideDigits, decidedDigits}
-use Rattle.majority.specs.Rule.{voters}
-use Rattle.vote.specs.Voting.{checkBy}
+use Rattle.majority.specs.Rule.{voting, voters}
 use Rattle.majority.proofs.SecondCircuit.{digits-at}
-use Rattle.voters.specs.declared.erased.Erased.{Erased}
-use Rattle.voters.proofs.ErasedDigits.{ErasedAt}
-use Rattle.digit_decoder.specs.Registers.{shareBy, sumBy, sumsBy, othersBy, ownOf, enteringBy, votingOf, onesOf, majorityDigit, decideDigitBy, decideFrameBy, withDecided}
-use Rattle.digit_decoder.proofs.Votes.{voting-by-rule, ones-by-rule}
+use Rattle.vote.specs.Voting.{checkBy, streamOnesBy}
+use Rattle.vote.proofs.Voting.{whole, voting-count, ones-count}
+use Rattle.digit_decoder.specs.Held.{shareBy, sumBy, sumsBy, othersBy, ownOf, enteringBy, majorityDigit, decideDigitBy, decideFrameBy, withDecided}
 
 -- ---- what the registers hold
 
@@ -124,6 +124,15 @@ module _ (frames digits : List ℕ) (u t s r d : ℕ) (R : (a : ℕ) → bit r a
       ∙ mul-comm (back (seen frames digits u s) (u + a) l) (bit g l)))
 
 -- ---- the frame that is decided
+
+-- by the number of votes and of those for 1
+abbrev byVotes : ℕ → ℕ → ℕ → ℕ
+byVotes n one own = cond (ltb n (2 * one)) 1 (cond (ltb (2 * one) n) 0 own)
+
+voting-small : (c : Card) (erased : List ℕ) (u i q : ℕ) → voting c erased u i q < 2
+unfolding voting
+voting-small c erased u i q = omega arith
+
 module _ (c : Card) (G : Guarantees c) (frames digits : List ℕ) (t u : ℕ) (hu : u + c .m ≡ t) (r d : List ℕ)
     (R : DigitsAt (c .k + c .p) frames u (suc t) r) (D : DecidedAt c digits u d) where
   -- the sum of parity stream j for time u + a: its digit, and the information digits that enter its parity
@@ -196,9 +205,13 @@ module _ (c : Card) (G : Guarantees c) (frames digits : List ℕ) (t u : ℕ) (h
             let y : back (entering frames digits u i i) (u + a) a ≡ 0 = back-in (entering frames digits u i i) (u + a) a (omega arith) ∙ ap (entering frames digits u i i) e ∙ left-out in
             rw (x, y) (omega arith)
 
-    -- the sums without it are those of what enters the vote
+    -- the sums that its votes are taken from
+    abbrev words : List ℕ
+    words = enteringBy (c .generators) r (sumsBy (c .generators) r d (c .k) (c .p)) (c .p) i
+
+    -- are those of what enters the vote
     other-bit : (j a : ℕ) → j < c .p → a ≤ c .m
-        → bit (getD (enteringBy (c .generators) r (sumsBy (c .generators) r d (c .k) (c .p)) (c .p) i) j 0) a % 2
+        → bit (getD words j 0) a % 2
         ≡ (entering frames digits u i (c .k + j) (u + a) + paritySum c (entering frames digits u i) j (u + a)) % 2
     unfolding enteringBy othersBy sumsBy
     other-bit j a lj la =
@@ -222,41 +235,49 @@ module _ (c : Card) (G : Guarantees c) (frames digits : List ℕ) (t u : ℕ) (h
         remainders x y z w e = omega arith
 
     -- a vote
-    vote-is : (q : ℕ)
-        → checkBy (c .checks) (i * 128 + q * 8) (enteringBy (c .generators) r (sumsBy (c .generators) r d (c .k) (c .p)) (c .p) i) (c .p)
-        ≡ vote c frames digits u i q
+    vote-is : (q : ℕ) → checkBy (c .checks) (checkStart i q) words (c .p) ≡ vote c frames digits u i q
     unfolding checkBy dot vote checkMask paritySum
     vote-is q =
-        let words = enteringBy (c .generators) r (sumsBy (c .generators) r d (c .k) (c .p)) (c .p) i in
         sum-mod (c .p) _ _
         (λ j lj.
-        let mask = getD (c .checks) (i * 128 + q * 8 + j) 0 in
+        let mask = getD (c .checks) (checkStart i q + j) 0 in
         ap (λ (x : ℕ). x % 2)
         (sum-cut 32 (suc (c .m)) (λ a. bit mask a * bit (getD words j 0) a) (omega (arith, G .m-most))
-        (λ a w. ap (λ (x : ℕ). x * bit (getD words j 0) a) (bit-high mask (c .m + 1) a (G .checks-within (i * 128 + q * 8 + j)) (omega arith)) ∙ omega arith))
+        (λ a w. ap (λ (x : ℕ). x * bit (getD words j 0) a) (bit-high mask (c .m + 1) a (G .checks-within (checkStart i q + j)) (omega arith)) ∙ omega arith))
         ∙ sum-mod (suc (c .m)) _ _ (λ a la. mul-mod-left (bit mask a) _ _ (other-bit j a lj (omega arith))))
 
-    -- the digit as it is decided
-    digit-is : (erased : List ℕ) (e : Erased) → ErasedAt (c .k + c .p) (G .n-most) erased u (suc t) e
-        → decideDigitBy (c .counts) (c .checks) (c .generators) r (sumsBy (c .generators) r d (c .k) (c .p)) (e .any) (e .marks) (c .k) (c .p) i
-        ≡ decideDigit c frames erased digits u i
-    unfolding decideDigitBy decideDigit majorityDigit votesForOne count
-    digit-is erased e E =
-        let words = enteringBy (c .generators) r (sumsBy (c .generators) r d (c .k) (c .p)) (c .p) i in
-        let n = getD (c .counts) i 0 in
-        let en : min n 16 ≡ n = omega (arith, G .J-most i) in
-        let v : u + c .m ≡ t = hu in
-        let at-u : ErasedAt (c .k + c .p) (G .n-most) erased u (suc (u + c .m)) e = rw v E in
-        ap (λ (n : ℕ). majorityDigit (votingOf (c .generators) (c .checks) i n (e .any) (e .marks) (c .k) (c .p))
-        (onesOf (c .generators) (c .checks) i n words (e .any) (e .marks) (c .k) (c .p)) (ownOf r i)) en
-        ∙ ap₂ (λ (n v : ℕ). majorityDigit n v (ownOf r i)) (voting-by-rule c G erased u e at-u i li) (ones-by-rule c G erased u e at-u i li words (vote c frames digits u i) (λ q l. vote-is q))
-        ∙ ap (majorityDigit (voters c erased u i) (votesForOne c frames erased digits u i)) own-is
+    words-long : 8 ≤ length words
+    unfolding enteringBy othersBy
+    words-long = let e : length words ≡ 8 = part-length _ (replicate 8 0) (c .p) (omega (arith, G .n-most)) in omega arith
+
+    -- the digit as it is decided, where the checks that vote are those of the rule
+    module _ (erased : List ℕ) where
+      abbrev votes? : ℕ
+      votes? = fromDigits (count c i) (voting c erased u i)
+
+      ones-are : ones (streamOnesBy (c .checks) i votes? words (c .p)) ≡ votesForOne c frames erased digits u i
+      unfolding streamOnesBy votesForOne
+      ones-are =
+          let p-is : min (c .p) 8 ≡ c .p = omega (arith, G .n-most) in
+          rw (lt-ltb i 4 (omega (arith, G .k-most)), p-is)
+          (ap ones (whole (c .checks) words _ (omega (arith, G .checks-long)) words-long)
+          ∙ ones-count (count c i) (G .J-most i) (voting c erased u i) (λ q l. voting-small c erased u i q) (c .checks) i words (c .p)
+          ∙ sum-cong (count c i) (λ q. ap (λ x. voting c erased u i q * x) (vote-is q)))
+
+      digit-is : (voters? : List ℕ) → getD voters? i 0 ≡ votes?
+          → decideDigitBy (c .generators) (c .checks) voters? r (sumsBy (c .generators) r d (c .k) (c .p)) (c .p) i ≡ decideDigit c frames erased digits u i
+      unfolding decideDigitBy decideDigit majorityDigit voters
+      digit-is voters? are =
+          ap (λ v. majorityDigit v (streamOnesBy (c .checks) i v words (c .p)) (ownOf r i)) are
+          ∙ ap₂ (λ v o. byVotes v o (ownOf r i))
+          (voting-count (count c i) (G .J-most i) (voting c erased u i) (λ q l. voting-small c erased u i q)) ones-are
+          ∙ ap (byVotes (voters c erased u i) (votesForOne c frames erased digits u i)) own-is
 
   -- the frame
-  pub decide-is : (erased : List ℕ) (e : Erased) → ErasedAt (c .k + c .p) (G .n-most) erased u (suc t) e
-      → decideFrameBy (c .counts) (c .checks) (c .generators) r d (e .any) (e .marks) (c .k) (c .p) ≡ decideDigits c frames erased digits u
+  pub decide-is : (erased voters? : List ℕ) → ((i : ℕ) → i < c .k → getD voters? i 0 ≡ fromDigits (count c i) (voting c erased u i))
+      → decideFrameBy (c .generators) (c .checks) voters? r d (c .k) (c .p) ≡ decideDigits c frames erased digits u
   unfolding decideFrameBy decideDigits
-  decide-is erased e E = from-digits-same (c .k) _ _ (λ i l. digit-is i l erased e E)
+  decide-is erased voters? are = from-digits-same (c .k) _ _ (λ i l. digit-is i l erased voters? (are i l))
 
 -- ---- the next frame
 
@@ -300,11 +321,15 @@ module _ (x y : ℕ → ℕ) (u d v : ℕ) (same : (w : ℕ) → w < u → x w �
 
 module _ (c : Card) (G : Guarantees c) (frames erased : List ℕ) where
   -- the frame of time u as it is decided, at the registers' upper end
-  pub decided-next : (u f : ℕ) (d : List ℕ) → f ≡ decideDigits c frames erased (decidedDigits c frames erased u) u → DecidedAt c (decidedDigits c frames erased u) u d
-      → DecidedAt c (decidedDigits c frames erased (suc u)) (suc u) (withDecided d f (c .k))
+  pub decided-next : (u f : ℕ) (d : List ℕ) → c .k ≤ length d → f ≡ decideDigits c frames erased (decidedDigits c frames erased u) u → DecidedAt c (decidedDigits c frames erased u) u d
+      → DecidedAt c (decidedDigits c frames erased (suc u)) (suc u) (withDecided d f)
   unfolding withDecided digit
-  decided-next u f d hf D i a li =
-      ap (λ (x : ℕ). bit x a) (part-at _ (replicate 4 0) (c .k) i li)
+  decided-next u f d enough hf D i a li =
+      ap (λ (x : ℕ). bit x a) (upTo-at (length d) _ i (omega arith))
       ∙ shifted (digit (decidedDigits c frames erased u) i) (digit (decidedDigits c frames erased (suc u)) i) u (getD d i 0) (bit f i)
       (λ w l. ap (λ (x : ℕ). bit x i) (digits-at c frames erased u w l ∙ sym (digits-at c frames erased (suc u) w (omega arith))))
       (ap (λ (x : ℕ). bit x i) (hf ∙ sym (digits-at c frames erased (suc u) u (omega arith)))) (bit-lt f i) (λ b. D i b li) a
+
+pub decided-length : (d : List ℕ) (f : ℕ) → length (withDecided d f) ≡ length d
+unfolding withDecided
+decided-length d f = upTo-length (length d) _

@@ -1,4 +1,4 @@
-pub mod Registers
+pub mod Held
 pub mod Receive
 pub mod Claims
 pub mod Opening

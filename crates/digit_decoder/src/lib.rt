@@ -1,30 +1,37 @@
 // The receiving session of Massey's second circuit: received digits and decided ones, no syndromes, votes on the digits themselves. Its calls, answers and
-// refusals are those of the first circuit's (`decoder`), and so are the frames that it hands out; it has no link figure.
+// refusals are those of the first circuit's (`decoder`), and so are the frames that it hands out; it has no link figure. A frame's way is three steps, and
+// each takes what is held and a few small values, the card's tables by reference: it is put in, the frame m before it is decided, and that is handed out and
+// stands from then on in place of what was received.
 mod registers;
 
 use card::CardRule;
-use card::Refusal;
 use card::Verdict;
 use code::Card;
+use code::Sizes;
 use receiving::Answer;
 use receiving::ReadFrame;
 use receiving::Reading;
-use voters::erased::Erased;
 ghost use mathlib.Core.Path.{_≡_};
-ghost use Prim.Native.Nat.{_<_};
-ghost use Rattle.card.specs.Refusals.{numberOf};
+ghost use Prim.Native.Nat.{ℕ, _<_, _≤_};
 ghost use Rattle.code.specs.Code.{mostFrames};
-ghost use Rattle.receiving.specs.Readings.{frameYieldOf};
-ghost use Rattle.receiving.specs.Receive.{refusedOf, receiveOf, receiveByteOf, receiveReadingsOf};
+ghost use Rattle.receiving.specs.Readings.{yields, frameYieldOf};
+ghost use Rattle.receiving.specs.Receive.{sizesIn, receiveOf, receiveByteOf, receiveReadingsOf};
+ghost use Rattle.digit_decoder.specs.Held.{stepOf, heldWith, decidedIn, heldAfter, settledBy};
 ghost use Rattle.digit_decoder.specs.Opening.{OpenPromise, receivedOf};
-ghost use Rattle.digit_decoder.specs.Receive.{freshOf, withFrame, handingOf, takenOf, secondCircuit};
+ghost use Rattle.digit_decoder.specs.Receive.{freshOf, secondCircuit};
 
-// What a session holds between two calls.
-pub struct Session {
-    pub card: Card,
+// What a session holds of the frames that it took.
+pub struct Held {
     pub digits: [u32; 8], // bit a of register s: the digit of stream s received a after the frame that is decided next
     pub decided: [u32; 4], // bit 32 - b of register i: information digit i as decided, b before the frame that is decided next
-    pub erased: Erased, // which digits from that frame on are erased
+    pub erased: [u32; 8], // bit a of register s: whether the digit of stream s is erased, a after that frame
+    pub any: u32, // bit a: whether some digit is, a after that frame
+}
+
+// What a session is between two calls.
+pub struct Session {
+    pub card: Card,
+    pub held: Held,
     pub received: u32, // how many frames were taken
 }
 
@@ -46,10 +53,10 @@ fn fresh(card: Card, received: u32) -> Session
 {
     Session {
         card,
-        digits: [0u32; 8],
-        decided: [0u32; 4],
-        erased: Erased {
-            marks: [0u32; 8],
+        held: Held {
+            digits: [0u32; 8],
+            decided: [0u32; 4],
+            erased: [0u32; 8],
             any: 0,
         },
         received,
@@ -66,103 +73,145 @@ pub fn open(card: &[u8]) -> Opened
     Opened { verdict, session }
 }
 
-// A refused call hands back the session as it was.
-fn refused(s: Session, refusal: Refusal) -> Received
-    ensures { λ r. ⌜ receivedOf r ≡ refusedOf s (numberOf refusal) ⌝ }
+// With the digits and the marks of a frame more, and nothing decided yet.
+fn put_in(held: Held, place: usize, frame: u32, marks: u32) -> Held
+    ensures { λ r. ⌜ r ≡ heldWith held place frame marks ⌝ }
 {
-    Received {
-        answer: Answer::Refused(refusal),
-        session: s,
-    }
-}
-
-// The session with the digits and the marks of a frame more, and nothing decided yet.
-fn with_frame(s: Session, frame: u8, marks: u8) -> Session
-    requires { ⌜ s .received < mostFrames ⌝ }
-    ensures { λ r. ⌜ r ≡ withFrame s frame marks ⌝ }
-{
-    let card = s.card;
-    let held = s.digits;
-    let decided = s.decided;
-    let n = receiving::stream_count(card.k, card.p);
-    let place = bits::at_most(s.received as usize, card.m);
-    let digits = code::with_digits(&held, frame as u32, n, place);
-    let received = s.received + 1;
-    let erased = voters::erased::with_frame(s.erased, marks as u32, n, place);
-    Session {
-        card,
+    let mut digits = held.digits;
+    let decided = held.decided;
+    let mut erased = held.erased;
+    code::put_digits(&mut digits, frame, place);
+    let any = vote::erased::put(&mut erased, held.any, marks, place);
+    Held {
         digits,
         decided,
         erased,
-        received,
+        any,
     }
 }
 
-// The frame m before the last one received, as it is decided, and the session with it in place of what was received.
-fn hand_out(s: Session) -> Received
-    ensures { λ r. ⌜ receivedOf r ≡ handingOf s ⌝ }
+// The frame that is decided next, as it is decided.
+fn decide<'a>(
+    generators: &'a [u32],
+    counts: &'a [u32],
+    checks: &'a [u32],
+    held: Held,
+    sizes: Sizes,
+) -> u32
+    requires { ⌜ (sizes .k ≤ 4) × (sizes .p ≤ 8) ⌝ }
+    ensures { λ r. ⌜ r ≡ decidedIn (now (generators .entry)) (now (counts .entry)) (now (checks .entry)) held sizes ⌝ }
 {
-    let card = s.card;
-    let held = s.digits;
-    let earlier = s.decided;
-    let k = bits::at_most(card.k, 4);
-    let p = bits::at_most(card.p, 8);
-    let erased = s.erased;
-    let marks = erased.marks;
-    let frame = registers::decide(
-        &card.counts,
-        &card.checks,
-        &card.generators,
-        &held,
-        &earlier,
-        erased.any,
-        &marks,
-        k,
-        p,
+    let digits = held.digits;
+    let decided = held.decided;
+    let erased = held.erased;
+    let voters = vote::voters::voting(
+        generators,
+        counts,
+        checks,
+        &erased,
+        held.any,
+        sizes.k,
+        sizes.p,
     );
-    let decided = registers::with_decided(&earlier, frame, k);
-    let digits = code::moved_on(&held);
-    let handed = frame as u8;
-    let later = voters::erased::moved_on(erased);
-    Received {
-        answer: Answer::Frame(handed),
-        session: Session {
-            card,
-            digits,
-            decided,
-            erased: later,
-            received: s.received,
+    registers::decide(
+        generators,
+        checks,
+        &voters.words,
+        &digits,
+        &decided,
+        sizes.k,
+        sizes.p,
+    )
+}
+
+// With the decided frame in place of what was received, for the next frame.
+fn moved_on(held: Held, frame: u32) -> Held
+    ensures { λ r. ⌜ r ≡ heldAfter held frame ⌝ }
+{
+    let mut digits = held.digits;
+    let mut decided = held.decided;
+    let mut erased = held.erased;
+    registers::put_decided(&mut decided, frame);
+    code::move_on(&mut digits);
+    let any = vote::erased::move_on(&mut erased, held.any);
+    Held {
+        digits,
+        decided,
+        erased,
+        any,
+    }
+}
+
+// What a frame comes to: the answer, what is held then, and how many frames were taken.
+struct Settled {
+    answer: Answer,
+    held: Held,
+    received: u32,
+}
+
+// A frame that is admitted is taken: the first m give 'waiting', each later one the frame m before it. A refused call leaves what is held as it was.
+fn settle<'a>(
+    generators: &'a [u32],
+    counts: &'a [u32],
+    checks: &'a [u32],
+    held: Held,
+    sizes: Sizes,
+    received: u32,
+    admitted: ReadFrame,
+) -> Settled
+    requires { ⌜ (sizes .k ≤ 4) × (sizes .p ≤ 8) × ((f e : ℕ) → frameYieldOf admitted ≡ yields f e → received < mostFrames) ⌝ }
+    ensures { λ r. ⌜ stepOf r ≡ settledBy (now (generators .entry)) (now (counts .entry)) (now (checks .entry)) held sizes received (frameYieldOf admitted) ⌝ }
+{
+    match admitted {
+        ReadFrame::Frame { digits, erased } => {
+            let place = bits::at_most(received as usize, sizes.m);
+            let with = put_in(held, place, digits as u32, erased as u32);
+            if (received as usize) < sizes.m {
+                return Settled {
+                    answer: Answer::Waiting,
+                    held: with,
+                    received: received + 1,
+                };
+            }
+            let frame = decide(generators, counts, checks, with, sizes);
+            Settled {
+                answer: Answer::Frame(frame as u8),
+                held: moved_on(with, frame),
+                received: received + 1,
+            }
+        }
+        ReadFrame::Refused(refusal) => Settled {
+            answer: Answer::Refused(refusal),
+            held,
+            received,
         },
     }
 }
 
-// A frame that is not refused, and which of its digits are erased: the first m give 'waiting', each later one the frame m before it.
-fn take(s: Session, frame: u8, marks: u8) -> Received
-    requires { ⌜ s .received < mostFrames ⌝ }
-    ensures { λ r. ⌜ receivedOf r ≡ takenOf s frame marks ⌝ }
-{
-    let card = s.card;
-    let m = card.m;
-    let received = s.received;
-    let next = with_frame(s, frame, marks);
-    if (received as usize) < m {
-        return Received {
-            answer: Answer::Waiting,
-            session: next,
-        };
-    }
-    hand_out(next)
-}
-
 // A frame, or its own refusal, under a card number: taken or refused.
-fn receive(s: Session, number: u8, read: ReadFrame) -> Received
+fn receive(s: Session, sizes: Sizes, number: u8, read: ReadFrame) -> Received
+    requires { ⌜ sizes ≡ sizesIn (s .card) ⌝ }
     ensures { λ r. ⌜ receivedOf r ≡ receiveOf secondCircuit s number (frameYieldOf read) ⌝ }
 {
-    let card = s.card;
-    let admitted = receiving::admit(card.number, s.received, number, read);
-    match admitted {
-        ReadFrame::Frame { digits, erased } => take(s, digits, erased),
-        ReadFrame::Refused(refusal) => refused(s, refusal),
+    let admitted = receiving::admit(s.card.number, s.received, number, read);
+    let held = s.held;
+    let settled = settle(
+        &s.card.generators,
+        &s.card.counts,
+        &s.card.checks,
+        held,
+        sizes,
+        s.received,
+        admitted,
+    );
+    let answer = settled.answer;
+    let after = settled.held;
+    let mut next = s;
+    next.held = after;
+    next.received = settled.received;
+    Received {
+        answer,
+        session: next,
     }
 }
 
@@ -170,16 +219,14 @@ fn receive(s: Session, number: u8, read: ReadFrame) -> Received
 pub fn receive_byte(s: Session, number: u8, frame: u8) -> Received
     ensures { λ r. ⌜ receivedOf r ≡ receiveByteOf secondCircuit s number frame ⌝ }
 {
-    let card = s.card;
-    let read = receiving::read_byte(frame, card.k, card.p);
-    receive(s, number, read)
+    let sizes = code::sizes_of(s.card.k, s.card.p, s.card.m);
+    receive(s, sizes, number, receiving::read_byte(frame, sizes.n))
 }
 
 // Receives a frame as eight readings, sent under a card number. Readings after the n-th are not looked at.
 pub fn receive_readings(s: Session, number: u8, readings: [Reading; 8]) -> Received
     ensures { λ r. ⌜ receivedOf r ≡ receiveReadingsOf secondCircuit s number readings ⌝ }
 {
-    let card = s.card;
-    let read = receiving::read_frame(readings, card.k, card.p);
-    receive(s, number, read)
+    let sizes = code::sizes_of(s.card.k, s.card.p, s.card.m);
+    receive(s, sizes, number, receiving::read_frame(readings, sizes.n))
 }

@@ -3,8 +3,7 @@
 // register, in which the digits move down past time u and become decided ones there.
 ghost use mathlib.Core.Path.{_≡_};
 ghost use Prim.Native.Nat.{_≤_, _<_};
-ghost use Rattle.digit_decoder.specs.Registers.{shareBy, sumBy, sumsBy, othersBy, votingOf, onesOf, majorityDigit, decideFrameBy, withDecided};
-use voters::Votes;
+ghost use Rattle.digit_decoder.specs.Held.{shareBy, sumBy, sumsBy, othersBy, majorityDigit, decideFrameBy, withDecided};
 
 // What the digits of an information stream add to the sums of a parity stream, digit a to that of time u + a: for each term of the generator both
 // registers, moved by it.
@@ -24,7 +23,7 @@ fn share(generator: u32, received: u32, decided: u32) -> u32
 }
 
 // The sums of parity stream j, digit a for time u + a: its received digit, and the information digits that enter its parity.
-fn sum(generators: &[u32; 32], received: &[u32; 8], decided: &[u32; 4], k: usize, j: usize) -> u32
+fn sum(generators: &[u32], received: &[u32], decided: &[u32], k: usize, j: usize) -> u32
     requires { ⌜ (k ≤ 4) × (j < 8) ⌝ }
     ensures { λ r. ⌜ r ≡ sumBy (now (generators .entry)) (now (received .entry)) (now (decided .entry)) k j ⌝ }
 {
@@ -43,13 +42,7 @@ fn sum(generators: &[u32; 32], received: &[u32; 8], decided: &[u32; 4], k: usize
 }
 
 // The sums of every parity stream.
-fn sums(
-    generators: &[u32; 32],
-    received: &[u32; 8],
-    decided: &[u32; 4],
-    k: usize,
-    p: usize,
-) -> [u32; 8]
+fn sums(generators: &[u32], received: &[u32], decided: &[u32], k: usize, p: usize) -> [u32; 8]
     requires { ⌜ (k ≤ 4) × (p ≤ 8) ⌝ }
     ensures { λ r. ⌜ r ≡ sumsBy (now (generators .entry)) (now (received .entry)) (now (decided .entry)) k p ⌝ }
 {
@@ -63,7 +56,7 @@ fn sums(
 }
 
 // The sums without the digit of stream i at time u, which is `own`.
-fn others(sums: &[u32; 8], generators: &[u32; 32], own: u32, i: usize, p: usize) -> [u32; 8]
+fn others(sums: &[u32], generators: &[u32], own: u32, i: usize, p: usize) -> [u32; 8]
     requires { ⌜ (own < 2) × (p ≤ 8) ⌝ }
     ensures { λ r. ⌜ r ≡ othersBy (now (sums .entry)) (now (generators .entry)) own i p ⌝ }
 {
@@ -76,38 +69,16 @@ fn others(sums: &[u32; 8], generators: &[u32; 32], own: u32, i: usize, p: usize)
     next
 }
 
-// The votes on the digit of stream i. While nothing is erased all of its checks vote.
-fn votes<'a>(
-    generators: &'a [u32; 32],
-    checks: &'a [u32; 512],
-    i: usize,
-    count: usize,
-    words: &[u32; 8],
-    any: u32,
-    marks: &[u32; 8],
-    k: usize,
-    p: usize,
-) -> Votes
-    ensures { λ r. ⌜ (r .voting ≡ votingOf (now (generators .entry)) (now (checks .entry)) i count any (now (marks .entry)) k p)
-        × (r .ones ≡ onesOf (now (generators .entry)) (now (checks .entry)) i count (now (words .entry)) any (now (marks .entry)) k p) ⌝ }
+// The majority of the checks that vote; a tie goes to the received digit.
+fn digit(voting: u32, ones: u32, own: u32) -> u32
+    ensures { λ r. ⌜ r ≡ majorityDigit voting ones own ⌝ }
 {
-    if any == 0 {
-        return Votes {
-            voting: count,
-            ones: vote::stream_votes(checks, i, count, words, p),
-        };
-    }
-    voters::stream_votes(generators, checks, i, count, words, marks, k, p)
-}
-
-// The majority of the votes; a tie goes to the received digit.
-fn digit(count: usize, votes: u32, own: u32) -> u32
-    ensures { λ r. ⌜ r ≡ majorityDigit count votes own ⌝ }
-{
-    if count < 2 * bits::index(votes) {
+    let count = u32::count_ones(voting);
+    let twice = 2 * u32::count_ones(ones);
+    if count < twice {
         return 1;
     }
-    if 2 * bits::index(votes) < count {
+    if twice < count {
         return 0;
     }
     own
@@ -115,18 +86,16 @@ fn digit(count: usize, votes: u32, own: u32) -> u32
 
 // The frame of time u as it is decided, digit i for stream i. All votes are on received digits of that frame: no stream sees what is decided for another.
 pub(crate) fn decide<'a>(
-    counts: &'a [usize; 4],
-    checks: &'a [u32; 512],
-    generators: &'a [u32; 32],
-    received: &[u32; 8],
-    decided: &[u32; 4],
-    any: u32,
-    marks: &[u32; 8],
+    generators: &'a [u32],
+    checks: &'a [u32],
+    voters: &[u32; 4],
+    received: &[u32],
+    decided: &[u32],
     k: usize,
     p: usize,
 ) -> u32
     requires { ⌜ (k ≤ 4) × (p ≤ 8) ⌝ }
-    ensures { λ r. ⌜ r ≡ decideFrameBy (now (counts .entry)) (now (checks .entry)) (now (generators .entry)) (now (received .entry)) (now (decided .entry)) any (now (marks .entry)) k p ⌝ }
+    ensures { λ r. ⌜ r ≡ decideFrameBy (now (generators .entry)) (now (checks .entry)) (now (voters .entry)) (now (received .entry)) (now (decided .entry)) k p ⌝ }
 {
     let all = sums(generators, received, decided, k, p);
     let mut frame: u32 = 0;
@@ -134,25 +103,21 @@ pub(crate) fn decide<'a>(
     while i < k {
         let own = bits::digit(bits::word(received, i), 0);
         let words = others(&all, generators, own, i, p);
-        let count = bits::at_most(counts[i], 16);
-        let cast = votes(generators, checks, i, count, &words, any, marks, k, p);
-        frame = frame + bits::shift_up(digit(cast.voting, cast.ones, own), i);
+        let voting = voters[i];
+        let ones = vote::stream_ones(checks, i, voting, &words, p);
+        frame = frame + bits::shift_up(digit(voting, ones, own), i);
         i += 1;
     }
     frame
 }
 
-// The decided registers with the digits of a frame more; the oldest digits leave them.
-pub(crate) fn with_decided(held: &[u32; 4], frame: u32, k: usize) -> [u32; 4]
-    requires { ⌜ k ≤ 4 ⌝ }
-    ensures { λ r. ⌜ r ≡ withDecided (now (held .entry)) frame k ⌝ }
+// The digits of a decided frame, put at the upper end of the decided registers; the oldest digits leave them.
+pub(crate) fn put_decided(registers: &mut [u32], frame: u32)
+    ensures { λ _. ⌜ now (registers .exit) ≡ withDecided (now (registers .entry)) frame ⌝ }
 {
-    let mut next = [0u32; 4];
     let mut i = 0;
-    while i < k {
-        next[i] = bits::shift_down(bits::word(held, i), 1)
-            ^ bits::shift_up(bits::digit(frame, i), 31);
+    while i < registers.len() {
+        registers[i] = (registers[i] >> 1) ^ bits::shift_up(bits::digit(frame, i), 31);
         i += 1;
     }
-    next
 }

@@ -15,7 +15,7 @@ use Rattle.code.specs.Code.{withTail, sentFrame, sent}
 use Rattle.code.specs.Guarantees.{Guarantees}
 use Rattle.code.specs.Registers.{historyBy}
 use Rattle.code.specs.declared.Card.{Card}
-use Rattle.code.proofs.Registers.{HistoryBefore, history-start}
+use Rattle.code.proofs.Registers.{HistoryBefore, history-start, history-length}
 use Rattle.code.proofs.Sending.{turn-history, turn-frame}
 use Rattle.code.proofs.Sent.{sent-length, sent-at}
 use Rattle.encoder.specs.Sending.{openOf, historyNext, frameNext, encodedOf, tailOut}
@@ -61,11 +61,11 @@ module _ (c : Card) (G : Guarantees c) (info : List ℕ) where
   stream-from t t′ x l q e =
       drop-cons (sent c info) t 0 (omega (arith, sent-length c info)) ∙ ap₂ (λ (y n : ℕ). y ∷ drop n (sent c info)) (sent-at c info t l ∙ sym e) (sym q)
 
-  follow : (calls : List Call) (n v : ℕ) (h : List ℕ) → n ≤ length info → v ≤ c .m → HistoryBefore c (withTail c info) (n + v) h
+  follow : (calls : List Call) (n v : ℕ) (h : List ℕ) → n ≤ length info → v ≤ c .m → length h ≡ 4 → HistoryBefore c (withTail c info) (n + v) h
       → drop n info ≡ informationTaken (session c h n v) calls → Followed c (sent c info) (n + v) calls (session c h n v)
   unfolding framesGiven informationTaken tailTaken encodedOf historyNext frameNext
-  follow [] n v h hn hv H e = record { frames-are = refl; tail-most = omega arith }
-  follow (information f ∷ calls) n v h hn hv H e =
+  follow [] n v h hn hv four H e = record { frames-are = refl; tail-most = omega arith }
+  follow (information f ∷ calls) n v h hn hv four H e =
       let s = session c h n v in
       ⊎-elim
       (λ (w : Taken s f).
@@ -76,21 +76,22 @@ module _ (c : Card) (G : Guarantees c) (info : List ℕ) where
       let l = dropped-within info n f _ e₀ in
       let z₁ : n ≡ n + v = omega arith in
       let hf : f ≡ getD info (n + v) 0 = dropped-head info n f _ e₀ ∙ ap (λ (t : ℕ). getD info t 0) z₁ in
+      let enough : c .k ≤ length h = omega (arith, G .k-most) in
       let t : suc (n + v) ≡ n + 1 + v = omega arith in
       carry-sent c (sent c info) (n + v) (n + 1 + v) (frameNext s f) (f ∷ []) 0 s (session c h′ (n + 1) v) (information f) calls q
-      (stream-from (n + v) (n + 1 + v) (frameNext s f) (omega arith) (sym t) (turn-frame c G info (n + v) h f hf H)) refl (omega arith)
-      (follow calls (n + 1) v h′ (omega arith) hv (subst (λ (x : ℕ). HistoryBefore c (withTail c info) x h′) t (turn-history c G info (n + v) h f hf H))
+      (stream-from (n + v) (n + 1 + v) (frameNext s f) (omega arith) (sym t) (turn-frame c G info (n + v) h f hf enough H)) refl (omega arith)
+      (follow calls (n + 1) v h′ (omega arith) hv (history-length h (c .k) f ∙ four) (subst (λ (x : ℕ). HistoryBefore c (withTail c info) x h′) t (turn-history c G info (n + v) h f hf enough H))
       (dropped-rest info n f _ e₀)))
       (λ (w : NotTaken s f).
       let q = information-refused s calls f w in
-      carry-refused c (sent c info) (n + v) s (information f) calls q (follow calls n v h hn hv H (e ∙ q .information-is)))
+      carry-refused c (sent c info) (n + v) s (information f) calls q (follow calls n v h hn hv four H (e ∙ q .information-is)))
       (information-outcome s f)
-  follow (tail ∷ calls) n v h hn hv H e =
+  follow (tail ∷ calls) n v h hn hv four H e =
       let s = session c h n v in
       ⊎-elim
       (λ (w : tailOut s ≡ true).
       let q = tail-refused s calls w in
-      carry-refused c (sent c info) (n + v) s tail calls q (follow calls n v h hn hv H (e ∙ q .information-is)))
+      carry-refused c (sent c info) (n + v) s tail calls q (follow calls n v h hn hv four H (e ∙ q .information-is)))
       (λ (w : tailOut s ≡ false).
       let q = tail-sent s calls w in
       let h′ = historyBy h (c .k) 0 in
@@ -99,10 +100,11 @@ module _ (c : Card) (G : Guarantees c) (info : List ℕ) where
       let l : length info ≤ n = omega (arith, length-drop n info, ap length (e₀ ∙ none)) in
       let room : v < c .m = omega (arith, leb-false (min (c .m) 31) v w, G .m-most) in
       let hf : 0 ≡ getD info (n + v) 0 = sym (List·getD-eq-default info 0 (omega arith)) in
+      let enough : c .k ≤ length h = omega (arith, G .k-most) in
       let t : suc (n + v) ≡ n + (v + 1) = omega arith in
       carry-sent c (sent c info) (n + v) (n + (v + 1)) (frameNext s 0) [] 1 s (session c h′ n (v + 1)) tail calls q
-      (stream-from (n + v) (n + (v + 1)) (frameNext s 0) (omega arith) (sym t) (turn-frame c G info (n + v) h 0 hf H)) refl refl
-      (follow calls n (v + 1) h′ hn (omega arith) (subst (λ (x : ℕ). HistoryBefore c (withTail c info) x h′) t (turn-history c G info (n + v) h 0 hf H)) e₀))
+      (stream-from (n + v) (n + (v + 1)) (frameNext s 0) (omega arith) (sym t) (turn-frame c G info (n + v) h 0 hf enough H)) refl refl
+      (follow calls n (v + 1) h′ hn (omega arith) (history-length h (c .k) 0 ∙ four) (subst (λ (x : ℕ). HistoryBefore c (withTail c info) x h′) t (turn-history c G info (n + v) h 0 hf enough H)) e₀))
       (tail-outcome s)
 
 -- ---- the claim
@@ -112,7 +114,7 @@ module _ (c : Card) (G : Guarantees c) (calls : List Call) where
   unfolding openOf
   from-start =
       let info = informationTaken (openOf c) calls in
-      follow c G info calls 0 0 (openOf c .history) (omega arith) (omega arith) (history-start c (withTail c info)) refl
+      follow c G info calls 0 0 (openOf c .history) (omega arith) (omega arith) refl (history-start c (withTail c info)) refl
 
   sent-first : framesGiven (openOf c) calls ≡ take (length (informationTaken (openOf c) calls) + tailTaken (openOf c) calls) (sent c (informationTaken (openOf c) calls))
   sent-first = from-start .frames-are

@@ -85,8 +85,8 @@ fn encode(s: Session, info: u8, sent: u32, tail: usize) -> Sent
 {
     let card = s.card;
     let generators = card.generators;
-    let before = s.history;
-    let history = code::history(&before, card.k, info as u32);
+    let mut history = s.history;
+    code::put_history(&mut history, card.k, info as u32);
     let frame = code::frame(&generators, &history, card.k, card.p, info as u32) as u8;
     Sent {
         answer: Answer::Frame(frame),

@@ -12,6 +12,7 @@ use Rattle.bits.proofs.Cases.{le-or-lt}
 use Rattle.code.specs.declared.Card.{Card}
 use Rattle.card.specs.Outcome.{Outcome, CardOutcome, accepted, refused}
 use Rattle.card.specs.Fields.{cardOf}
+use Rattle.card.specs.Layout.{longestCard}
 use Rattle.card.specs.Reading.{byteField, readHead, readFields, readUnder, readCard}
 use Rattle.card.specs.Written.{written}
 use Rattle.card.specs.declared.CardRule.the-variants.{Former, Present}
@@ -93,7 +94,7 @@ by-the-front input whole e =
 
 -- ---- the promise of `rewrite`
 module _ (input output : List ℕ) (bytes : (i : ℕ) → getD input i 0 < 256) {count : ℕ} {after : List ℕ} where
-  rewrites : AtFront 1163 (rewritten input) output count after → Rewrites input output count after
+  rewrites : AtFront longestCard (rewritten input) output count after → Rewrites input output count after
   rewrites w =
       record {
         wrote = w;
@@ -103,10 +104,10 @@ module _ (input output : List ℕ) (bytes : (i : ℕ) → getD input i 0 < 256) 
         by-the-front = by-the-front input;
       }
 
-  pub rewrites-line : {line : List ℕ} {most : ℕ} → rewritten input ≡ line → WroteWhole most output line after count → most ≤ 1163
-      → 1163 ≤ length output → Rewrites input output count after
-  rewrites-line e w l room = rewrites (front-written output 1163 e w l room)
+  pub rewrites-line : {line : List ℕ} {most : ℕ} → rewritten input ≡ line → WroteWhole most output line after count → most ≤ longestCard
+      → longestCard ≤ length output → Rewrites input output count after
+  rewrites-line e w l room = rewrites (front-written output longestCard e w l room)
 
-  pub rewrites-card : (c : Card) → rewritten input ≡ written c → length (written c) ≤ 1163 → outcome (pos count) after ≡ givenOf (written c) output
+  pub rewrites-card : (c : Card) → rewritten input ≡ written c → length (written c) ≤ longestCard → outcome (pos count) after ≡ givenOf (written c) output
       → Rewrites input output count after
-  rewrites-card c e l g = rewrites (subst (λ (bytes : List ℕ). AtFront 1163 bytes output count after) (sym e) (front-given 1163 g l))
+  rewrites-card c e l g = rewrites (subst (λ (bytes : List ℕ). AtFront longestCard bytes output count after) (sym e) (front-given longestCard g l))

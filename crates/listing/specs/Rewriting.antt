@@ -8,6 +8,7 @@ use mathlib.Core.List.{List}
 use lib.ListN.{length, take}
 use lib.Dec.{ltb}
 use Rattle.code.specs.declared.Card.{Card}
+use Rattle.card.specs.Layout.{longestCard}
 use Rattle.card.specs.Outcome.{Outcome, accepted, refused}
 use Rattle.card.specs.Reading.{readUnder, readCard}
 use Rattle.card.specs.Written.{written}
@@ -26,8 +27,8 @@ unfoldable pub rewritten : List ℕ → List ℕ
 rewritten input = cond (ltb 2048 (length input)) tooLongLine (rewrittenUnder (readUnder Former input .outcome) (readUnder Former input .card))
 
 pub record Rewrites (input output : List ℕ) (count : ℕ) (after : List ℕ) : Type 0 where
-  -- the new bytes, or the line, for which the output, of 1,163 bytes, always has room
-  pub wrote : AtFront 1163 (rewritten input) output count after
+  -- the new bytes, or the line, for which the output, as long as the longest card, always has room
+  pub wrote : AtFront longestCard (rewritten input) output count after
   -- what a stored card is written as is accepted under the present rule, with the same value ..
   pub carried-over : (c : Card) → ReadsUnder Former input c → ReadsAs (rewritten input) c
   -- .. and nothing else that is written is accepted

@@ -22,14 +22,14 @@ use card::CardRule;
 use card::Refusal;
 use card::Verdict;
 use code::Card;
-use outcomes::LONGEST_CARD;
+use outcomes::MOST_CARD_BYTES;
 use outcomes::stated_length;
 
 // The most frames that are listed.
 const MOST_LISTED: usize = 32768;
 
 // The longest input that is listed: two bytes of length, the longest card and the most frames.
-pub const LONGEST_INPUT: usize = 2 + LONGEST_CARD + MOST_LISTED;
+pub const LONGEST_INPUT: usize = 2 + MOST_CARD_BYTES + MOST_LISTED;
 
 // No listing is longer: the first line has at most 22 bytes (`card 255 k 4 n 8 m 31`), that of each frame at most 14 (a time of five digits,
 // four streams), the last one at most 10 (`end 32768`), and a refusal or `input too long` stands alone.
@@ -133,7 +133,7 @@ pub fn list(input: &[u8], output: &mut [u8; LISTING_ROOM]) -> usize
     let rest = after(input, 2);
     let card = front(rest, length);
     let frames = after(rest, length);
-    if LONGEST_CARD < length {
+    if MOST_CARD_BYTES < length {
         return lines::too_long(output);
     }
     if MOST_LISTED < frames.len() {

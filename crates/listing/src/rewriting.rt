@@ -3,6 +3,7 @@ ghost use mathlib.Core.Path.{_≡_};
 ghost use Prim.Native.Nat.{_≤_};
 ghost use lib.ListN.{length};
 ghost use lib.IntN.{pos};
+ghost use Rattle.card.specs.Layout.{longestCard};
 ghost use Rattle.card.specs.Written.{written};
 ghost use Rattle.outcomes.specs.Outcome.{outcome, givenOf};
 ghost use Rattle.listing.specs.Rewriting.{Rewrites};
@@ -10,15 +11,15 @@ use crate::lines;
 use card::CardRule;
 use card::Verdict;
 use code::Card;
-use outcomes::LONGEST_CARD;
+use outcomes::MOST_CARD_BYTES;
 use writer::CardWritten;
 
 // No card is longer, and no line either.
-pub const REWRITING_ROOM: usize = 1163;
+pub const REWRITING_ROOM: usize = card::LONGEST_CARD;
 
 // A card in its written form, for which there is room.
 fn write_anew(card: Card, output: &mut [u8]) -> usize
-    requires { ⌜ (length (written card) ≤ 1163) × (1163 ≤ length (now output)) ⌝ }
+    requires { ⌜ (length (written card) ≤ longestCard) × (longestCard ≤ length (now output)) ⌝ }
     ensures { λ r. ⌜ outcome (pos r) (now (output .exit)) ≡ givenOf (written card) (now (output .entry)) ⌝ }
 {
     let answer = writer::write_card(card, output);
@@ -32,7 +33,7 @@ fn write_anew(card: Card, output: &mut [u8]) -> usize
 pub fn rewrite(input: &[u8], output: &mut [u8; REWRITING_ROOM]) -> usize
     ensures { λ r. ⌜ Rewrites (now (input .entry)) (now (output .entry)) r (now (output .exit)) ⌝ }
 {
-    if LONGEST_CARD < input.len() {
+    if MOST_CARD_BYTES < input.len() {
         return lines::too_long(output);
     }
     let read = card::read_card(CardRule::Former, input);

@@ -1,5 +1,5 @@
 -- What the loop of the pass keeps, the streams below s worked out, and what it leaves: the judgement, and the errors added.
-use Prim.Native.Nat.{ℕ, _+_, _-_, _*_, _%_, _^_, _≤_, _<_, zero-le, min, max}
+use Prim.Native.Nat.{ℕ, _+_, _*_, _%_, _^_, _≤_, _<_, zero-le, min, max}
 use mathlib.Core.Path.{_≡_, refl, sym, ap, _∙_}
 use mathlib.Core.List.{List, _++_}
 use mathlib.Core.Logic.{⊎-elim}
@@ -7,17 +7,17 @@ use native.Mathlib.Nat.{zero-mul, mod-eq-of-lt, le-antisymm}
 use native.Mathlib.Omega.{arith}
 use lib.ListN.{length, getD, set, drop, replicate, length-set}
 use lib.Seq.{getD-set-same, getD-set-other}
-use lib.Bits.{bitAnd, bitOr, or-lt}
+use lib.Bits.{bitOr, or-lt}
 use borrow.Author.Tests.{eq-eqb, ne-eqb}
 use Rattle.bits.specs.Sums.{sumBelow, upTo}
 use Rattle.bits.specs.Digits.{bit, fromDigits}
 use Rattle.bits.proofs.Cases.{le-or-lt, same-or-not}
 use Rattle.bits.proofs.Sums.{sum-none, none-of-sum, sum-more}
 use Rattle.bits.proofs.Lists.{zeros-at, part-at, part-rest}
-use Rattle.bits.proofs.Digits.{bit-le, bit-zero, bit-of-zero, bit-and, bit-or, from-digits-bits}
+use Rattle.bits.proofs.Digits.{bit-le, bit-zero, bit-of-zero, bit-or, from-digits-bits}
 use Rattle.code.specs.Checks.{touchesBy, besides}
 use Rattle.code.specs.Judging.{clashes, judge}
-use Rattle.orthogonal.specs.Pass.{holds, Passed, wordCode, informationStreams, parityStreams, firstMasks}
+use Rattle.orthogonal.specs.Pass.{holds, Touched, Clash, Passed, wordCode, firstMasks}
 use Rattle.orthogonal.proofs.WordCode.{touches-beyond}
 
 -- the errors of the first n streams added to those of before
@@ -55,8 +55,8 @@ module _ (generators masks before : List ℕ) (k p i : ℕ) where
 
   module _ {errors : List ℕ} {again s : ℕ} (w : Worked errors again s) where
     -- one stream more: e are its errors, a those of them that were touched before, the own digit's left out
-    pub worked-next : (e a : ℕ) → k + p ≤ 8 → s < k + p → ((b : ℕ) → b < 32 → bit e b ≡ touch b s)
-        → a < 2 ^ 32 → ((b : ℕ) → bit a b ≡ besides i b s * bit (bitAnd e (getD before s 0)) b) → Worked (set errors s e) (bitOr again a) (s + 1)
+    pub worked-next : (e a : ℕ) → k + p ≤ 8 → s < k + p → Touched (wordCode generators k p) (firstMasks p masks) s e
+        → a < 2 ^ 32 → Clash i s e (getD before s 0) a → Worked (set errors s e) (bitOr again a) (s + 1)
     unfolding holds
     worked-next e a n l he ha hb =
         record {
@@ -64,7 +64,7 @@ module _ (generators masks before : List ℕ) (k p i : ℕ) where
           long = length-set errors s e ∙ w .long;
           done = λ q b h lb.
               ⊎-elim
-              (λ same. ap (λ x. bit (getD (set errors s e) x 0) b) same ∙ ap (λ x. bit x b) (getD-set-same errors s e 0 (omega (arith, w .long))) ∙ he b lb ∙ ap (touch b) (sym same))
+              (λ same. ap (λ x. bit (getD (set errors s e) x 0) b) same ∙ ap (λ x. bit x b) (getD-set-same errors s e 0 (omega (arith, w .long))) ∙ he .touches-are b lb ∙ ap (touch b) (sym same))
               (λ other. ap (λ x. bit x b) (getD-set-other errors s q e 0 other) ∙ w .done q b (omega arith) lb)
               (same-or-not q s);
           left = λ q h. getD-set-other errors s q e 0 (λ z. absurd (omega arith)) ∙ w .left q (omega arith);
@@ -73,7 +73,7 @@ module _ (generators masks before : List ℕ) (k p i : ℕ) where
         }
       where
         here : (b : ℕ) → b < 32 → bit a b ≡ clash b s
-        here b lb = hb b ∙ ap (λ x. besides i b s * x) (bit-and e (getD before s 0) b ∙ ap (λ x. x * bit (getD before s 0) b) (he b lb))
+        here b lb = hb .both-are b ∙ ap (λ x. besides i b s * (x * bit (getD before s 0) b)) (he .touches-are b lb)
 
         more : (b : ℕ) → b < 32 → max (bit again b) (bit a b) ≡ min 1 (sumBelow (s + 1) (clash b))
         more b lb = omega (arith, w .clashing b lb, here b lb, bit-le a b, sum-more s (clash b))
@@ -113,8 +113,8 @@ module _ (generators masks before : List ℕ) (k p i : ℕ) where
       own-untouched z =
           record {
             number-is = sym (rw (ne-eqb (touch 0 i) 1 (λ o. absurd (omega (arith, own-is)))));
-            added = λ n b s lb ls. absurd (omega arith);
-            kept = λ n. refl;
+            added = λ z b s lb ls. absurd (omega arith);
+            kept = λ z. refl;
           }
 
       module _ (own : getD errors i 0 % 2 ≡ 0 → ⊥) where
@@ -126,18 +126,18 @@ module _ (generators masks before : List ℕ) (k p i : ℕ) where
         touched-before h =
             record {
               number-is = sym (rw (eq-eqb _ 1 own-touched, ne-eqb (clashes (wordCode generators k p) i (firstMasks p masks) (holds before)) 0 (λ z. absurd (omega (arith, again-none z)))));
-              added = λ n b s lb ls. absurd (omega arith);
-              kept = λ n. refl;
+              added = λ z b s lb ls. absurd (omega arith);
+              kept = λ z. refl;
             }
 
-        pub stands : again ≤ 0 → {after : List ℕ} → after ≡ withErrors (k + p) errors before
+        pub stands : again ≤ 0 → {n : ℕ} → n ≡ k + p → {after : List ℕ} → after ≡ withErrors n errors before
             → Passed (wordCode generators k p) i (firstMasks p masks) before 0 after
         unfolding judge holds
-        stands h {after} e =
+        stands h {n} all {after} e =
             record {
               number-is = sym (rw (eq-eqb _ 1 own-touched, eq-eqb _ 0 (none-again (omega arith))));
-              added = λ n b s lb ls. ap (λ x. bit (getD x s 0) b) e ∙ ⊎-elim (beyond b s) (within b s lb) (le-or-lt (k + p) s);
-              kept = λ n. absurd (n refl);
+              added = λ z b s lb ls. ap (λ x. bit (getD x s 0) b) (e ∙ ap (λ x. withErrors x errors before) all) ∙ ⊎-elim (beyond b s) (within b s lb) (le-or-lt (k + p) s);
+              kept = λ z. absurd (z refl);
             }
           where
             within : (b s : ℕ) → b ≤ 31 → s < k + p → bit (getD (withErrors (k + p) errors before) s 0) b ≡ max (bit (getD before s 0) b) (touch b s)
@@ -150,9 +150,3 @@ module _ (generators masks before : List ℕ) (k p i : ℕ) where
             beyond b s ls =
                 ap (λ x. bit x b) (part-rest (λ q. bitOr (getD before q 0) (getD errors q 0)) before (k + p) s ls)
                 ∙ omega (arith, touches-beyond generators masks k p b s ls)
-
--- for the streams that there are words for
-pub for-streams : {generators before after : List ℕ} {i number streams parities : ℕ} (masks : List ℕ) (k p : ℕ) → streams ≡ informationStreams k → parities ≡ min p (8 - streams)
-    → Passed (wordCode generators streams parities) i (firstMasks parities masks) before number after
-    → Passed (wordCode generators (informationStreams k) (parityStreams k p)) i (firstMasks (parityStreams k p) masks) before number after
-for-streams masks k p e q P = rw (q, e) at P

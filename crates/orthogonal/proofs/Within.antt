@@ -58,7 +58,7 @@ module _ (c : Card) (m-most : c .m ≤ 31) (mask : ℕ → ℕ) (within : (j : �
       (le-or-lt (c .k) s)
 
   module _ (i : ℕ) (touched : ℕ → ℕ → ℕ) where
-    clashes-within : clashes words i mask touched ≡ clashes c i mask touched
+    pub clashes-within : clashes words i mask touched ≡ clashes c i mask touched
     unfolding clashes
     clashes-within =
         sum-cut 32 (suc (c .m)) (λ b. sumBelow (c .k + c .p) (λ s. besides i b s * (touchesBy words mask b s * touched b s))) (omega arith)

@@ -24,9 +24,10 @@ module _ (generators masks : List ℕ) (k p b s : ℕ) where
       ap (λ x. x % 2)
       (sum-same p _ _ (λ j h. sum-cong 32 (λ a. ap (λ x. bit x a * back (bit (getD generators (s * 8 + j) 0)) a b) (sym (getD-take p masks j 0 h)))))
 
-  pub touches-information : s < k → touchesInfo (wordCode generators 0 p) (firstMasks p masks) b s ≡ touchesBy (wordCode generators k p) (firstMasks p masks) b s
+  pub touches-information : {x : ℕ} → s < k → x ≡ touchesInfo (wordCode generators 0 p) (firstMasks p masks) b s
+      → x ≡ touchesBy (wordCode generators k p) (firstMasks p masks) b s
   unfolding touchesBy touchesInfo generator
-  touches-information l = rw (lt-ltb s k l)
+  touches-information l e = rw (lt-ltb s k l) e
 
   -- one of a parity stream
   pub touches-parity : k ≤ s → s < k + p → bit (getD masks (s - k) 0) b ≡ touchesBy (wordCode generators k p) (firstMasks p masks) b s

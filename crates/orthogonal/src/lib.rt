@@ -1,15 +1,15 @@
-// Whether the checks of a stream are orthogonal, check by check: one pass over a check works out the errors that it touches, a word for each stream,
-// tests them against those of the earlier checks and adds them.
+// What a check touches, a word of each stream, and whether the checks of a stream are orthogonal, check by check: one pass over a check works out the
+// errors that it touches, tests them against those of the earlier checks and adds them.
 ghost use mathlib.Core.Path.{_≡_};
-ghost use mathlib.Core.List.{_++_};
 ghost use Prim.Native.Nat.{ℕ, _+_, _*_, _%_, _<_, _≤_};
+ghost use mathlib.Core.List.{_++_};
 ghost use lib.ListN.{length, getD, drop};
 ghost use lib.Bits.{bitOr};
 ghost use Rattle.bits.specs.Sums.{sumBelow, upTo, back};
 ghost use Rattle.bits.specs.Digits.{bit};
-ghost use Rattle.code.specs.Checks.{touchesInfo, touchesBy, besides};
+ghost use Rattle.code.specs.Checks.{touchesInfo};
 ghost use Rattle.orthogonal.specs.Judgements.{judgementNumber};
-ghost use Rattle.orthogonal.specs.Pass.{Passed, wordCode, informationStreams, parityStreams, firstMasks};
+ghost use Rattle.orthogonal.specs.Pass.{Touched, Clash, Passed, wordCode, informationStreams, parityStreams, firstMasks};
 
 // Why a check does not stand. Each case has its published number, by `failureNumber`.
 pub enum Failure {
@@ -38,7 +38,7 @@ fn through_terms(mask: u32, generator: u32) -> u32
 }
 
 // The errors of information stream s that a check touches.
-fn information_errors(generators: &[u32; 32], masks: &[u32; 8], p: usize, s: usize) -> u32
+fn information_errors(generators: &[u32], masks: &[u32], p: usize, s: usize) -> u32
     requires { ⌜ (p ≤ 8) × (s < 8) ⌝ }
     ensures { λ r. ⌜ ((b : ℕ) → b < 32 → bit r b ≡ touchesInfo (wordCode (now (generators .entry)) 0 p) (firstMasks p (now (masks .entry))) b s) ⌝ }
 {
@@ -52,23 +52,29 @@ fn information_errors(generators: &[u32; 32], masks: &[u32; 8], p: usize, s: usi
     sum
 }
 
-// The errors of stream s that a check touches, that at offset b as digit b.
-fn errors_of(generators: &[u32; 32], masks: &[u32; 8], k: usize, p: usize, s: usize) -> u32
-    requires { ⌜ (k + p ≤ 8) × (s < k + p) ⌝ }
-    ensures { λ r. ⌜ ((b : ℕ) → b < 32 → bit r b ≡ touchesBy (wordCode (now (generators .entry)) k p) (firstMasks p (now (masks .entry))) b s) ⌝ }
+// The errors of stream s that a check with these masks touches, that at offset b as digit b: none of a stream that there is not. More streams than the
+// tables have are not looked at.
+pub fn touched(generators: &[u32], masks: &[u32], k: usize, p: usize, s: usize) -> u32
+    ensures { λ r. ⌜ Touched (wordCode (now (generators .entry)) (informationStreams k) (parityStreams k p)) (firstMasks (parityStreams k p) (now (masks .entry))) s r ⌝ }
 {
-    if s < k {
-        information_errors(generators, masks, p, s)
+    let streams = bits::at_most(k, 8);
+    let parities = bits::at_most(p, 8 - streams);
+    if s < streams {
+        return information_errors(generators, masks, parities, s);
+    }
+    if s - streams < parities {
+        bits::word(masks, s - streams)
     } else {
-        bits::word(masks, s - k)
+        0
     }
 }
 
-// Errors of stream s without that of the own digit of a check of stream i.
-fn without_own(errors: u32, i: usize, s: usize) -> u32
-    ensures { λ r. ⌜ ((b : ℕ) → bit r b ≡ besides i b s * bit errors b) ⌝ }
+// The errors of stream s that are both among these and among those of before, without that of the own digit of a check of stream i.
+pub fn clash(errors: u32, before: u32, i: usize, s: usize) -> u32
+    ensures { λ r. ⌜ Clash i s errors before r ⌝ }
 {
-    if s == i { errors - errors % 2 } else { errors }
+    let both = errors & before;
+    if s == i { both - both % 2 } else { both }
 }
 
 // The errors of the first streams added to those touched.
@@ -100,14 +106,13 @@ pub fn pass(
         (now (touched .entry)) (judgementNumber r) (now (touched .exit)) ⌝ }
 {
     let streams = bits::at_most(k, 8);
-    let parities = bits::at_most(p, 8 - streams);
-    let n = streams + parities;
+    let n = streams + bits::at_most(p, 8 - streams);
     let mut errors = [0u32; 8];
     let mut again: u32 = 0;
     let mut s = 0;
     while s < n {
-        let touches = errors_of(generators, masks, streams, parities, s);
-        again = again | without_own(touches & touched[s], i, s);
+        let touches = crate::touched(generators, masks, k, p, s);
+        again = again | clash(touches, touched[s], i, s);
         errors[s] = touches;
         s += 1;
     }

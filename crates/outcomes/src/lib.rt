@@ -6,8 +6,8 @@ ghost use mathlib.Core.Path.{_≡_};
 ghost use Rattle.outcomes.specs.Listing.{statedLength};
 use bits::size;
 
-// The longest card that is listed or traced, by its stated length, or written anew, by its bytes.
-pub const LONGEST_CARD: usize = 2048;
+// The most bytes of a card that is listed or traced, by its stated length, or written anew, by its bytes.
+pub const MOST_CARD_BYTES: usize = 2048;
 
 // The stated length of the card, 0 where a length byte is missing.
 pub fn stated_length(input: &[u8]) -> usize

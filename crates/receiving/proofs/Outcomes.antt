@@ -1,6 +1,6 @@
 -- The ways out of a receiving call, and that a call is taken by its conditions exactly if it is not refused. The session is of any kind.
-use Prim.Native.Nat.{ℕ, _+_, _^_, _≤_, _<_}
-use mathlib.Core.Path.{_≡_, refl, sym, ap, _∙_}
+use Prim.Native.Nat.{ℕ, _+_, _^_, _≤_, _<_, min}
+use mathlib.Core.Path.{_≡_, refl, ap, _∙_}
 use mathlib.Core.Bool.{Bool, true, false, cond, _&&_}
 use mathlib.Core.Logic.{_⊎_, inl, inr}
 use mathlib.Core.List.{List}
@@ -11,8 +11,8 @@ use Rattle.code.specs.Code.{mostFrames}
 use Rattle.code.specs.Guarantees.{Guarantees}
 use Rattle.code.specs.declared.Card.{Card}
 use Rattle.receiving.specs.Answers.{Reply, waiting}
-use Rattle.receiving.specs.Readings.{streamsOf, Yield, yields, refuses, faults, frameRead, erasedRead, readByteOf, readFrameOf}
-use Rattle.receiving.specs.Receive.{Circuit, inTurn, admitOf, refusedOf, settledOf, receiveOf, receiveByteOf, receiveReadingsOf}
+use Rattle.receiving.specs.Readings.{Yield, yields, refuses, faults, frameRead, erasedRead, readByteOf, readFrameOf}
+use Rattle.receiving.specs.Receive.{sizesIn, Circuit, inTurn, admitOf, refusedOf, settledOf, receiveOf, receiveByteOf, receiveReadingsOf}
 use Rattle.receiving.specs.Calls.{Call, byte, readings, replyOf, numberIn, frameIn, erasedIn, readable, taken}
 use Rattle.receiving.specs.declared.Reading.{Reading}
 use Rattle.receiving.proofs.Yields.{byte-within, byte-beyond, read-whole, read-faulty}
@@ -97,18 +97,18 @@ by-conditions own received number f e ok y yielded = numbered (eqb number own) r
 
 -- what a call yields, by its card and the frames received
 unfoldable pub admission : Card → ℕ → Call → Yield
-admission c received (byte number f) = admitOf (c .number) received number (readByteOf f (streamsOf (c .k) (c .p)))
-admission c received (readings number levels) = admitOf (c .number) received number (readFrameOf levels (streamsOf (c .k) (c .p)))
+admission c received (byte number f) = admitOf (c .number) received number (readByteOf f (sizesIn c .n))
+admission c received (readings number levels) = admitOf (c .number) received number (readFrameOf levels (sizesIn c .n))
 
 -- it is taken by its conditions exactly if it is not refused
 pub outcome : (c : Card) → Guarantees c → (received : ℕ) (call : Call)
     → Yielded (taken c received call) (frameIn (c .k + c .p) call) (erasedIn (c .k + c .p) call) (admission c received call)
 unfolding taken numberIn frameIn erasedIn readable admission
 outcome c G received (byte number f) =
-    let n : streamsOf (c .k) (c .p) ≡ c .k + c .p = omega (arith, G .k-most, G .n-most) in
+    let n : sizesIn c .n ≡ c .k + c .p = omega (arith, G .k-most, G .n-most) in
     rw n (by-conditions (c .number) received number f 0 _ _ (yielded-byte f (c .k + c .p)))
 outcome c G received (readings number levels) =
-    let n : streamsOf (c .k) (c .p) ≡ c .k + c .p = omega (arith, G .k-most, G .n-most) in
+    let n : sizesIn c .n ≡ c .k + c .p = omega (arith, G .k-most, G .n-most) in
     rw n (by-conditions (c .number) received number _ _ _ _ (yielded-readings levels (c .k + c .p)))
 
 module _ {S : Type 0} (x : Circuit S) (s : S) (call : Call) where
@@ -130,20 +130,13 @@ module _ {S : Type 0} (x : Circuit S) (s : S) (call : Call) where
 
 -- ---- what the parts of a call come to together, stated over their results, so that the functions' proofs stay small
 module _ {S : Type 0} (x : Circuit S) (s : S) (number : ℕ) (y : Yield) where
-  module _ {a : Yield} {r : Reply S} (admitted-is : a ≡ admitOf (x .card s .number) (x .received s) number y) where
-    pub is-taken : (f e : ℕ) → a ≡ yields f e → r ≡ x .take s f e → r ≡ receiveOf x s number y
-    unfolding receiveOf settledOf
-    is-taken f e w q = q ∙ ap (settledOf x s) (sym w ∙ admitted-is)
-
-    pub is-refused : (n : ℕ) → a ≡ refuses n → r ≡ refusedOf s n → r ≡ receiveOf x s number y
-    unfolding receiveOf settledOf
-    is-refused n w q = q ∙ ap (settledOf x s) (sym w ∙ admitted-is)
-
   module _ {r : Reply S} (e : r ≡ receiveOf x s number y) where
-    pub byte-is : (f : ℕ) → y ≡ readByteOf f (streamsOf (x .card s .k) (x .card s .p)) → r ≡ receiveByteOf x s number f
+    pub byte-is : (f : ℕ) → y ≡ readByteOf f (sizesIn (x .card s) .n) → r ≡ receiveByteOf x s number f
     unfolding receiveByteOf
     byte-is f q = e ∙ ap (receiveOf x s number) q
 
-    pub readings-are : (levels : List Reading) → y ≡ readFrameOf levels (streamsOf (x .card s .k) (x .card s .p)) → r ≡ receiveReadingsOf x s number levels
+    pub readings-are : (levels : List Reading) → y ≡ readFrameOf levels (min (sizesIn (x .card s) .n) 8) → r ≡ receiveReadingsOf x s number levels
     unfolding receiveReadingsOf
-    readings-are levels q = e ∙ ap (receiveOf x s number) q
+    readings-are levels q =
+        let most : min (sizesIn (x .card s) .n) 8 ≡ sizesIn (x .card s) .n = omega arith in
+        e ∙ ap (receiveOf x s number) (q ∙ ap (readFrameOf levels) most)

@@ -1,7 +1,7 @@
 -- What a frame yields that comes as a byte or as readings: document 01, "Readings and bursts", amended for 'erased' by document 02, R-6, and for levels
 -- close to zero by R-7.
 -- Assumes nothing.
-use Prim.Native.Nat.{ℕ, _+_, _*_, _^_, min}
+use Prim.Native.Nat.{ℕ, _*_, _^_}
 use mathlib.Core.Bool.{Bool, cond}
 use mathlib.Core.List.{List}
 use lib.ListN.{getD}
@@ -17,10 +17,6 @@ use Rattle.receiving.specs.declared.ReadDigit.{ReadDigit}
 use Rattle.receiving.specs.declared.ReadDigit.the-variants as read-digit
 use Rattle.receiving.specs.declared.ReadFrame.{ReadFrame}
 use Rattle.receiving.specs.declared.ReadFrame.the-variants as read-frame
-
--- n, for k information and p parity streams, held to what the tables and the digits of a byte have
-abbrev pub streamsOf : ℕ → ℕ → ℕ
-streamsOf k p = min (min k 4 + min p 8) 8
 
 -- ---- a reading
 

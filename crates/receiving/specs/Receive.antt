@@ -6,17 +6,16 @@ use mathlib.Core.Bool.{cond}
 use mathlib.Core.List.{List}
 use lib.Dec.{ltb, eqb}
 use Rattle.code.specs.Code.{mostFrames}
+use Rattle.code.specs.Sizes.{sizesOf}
 use Rattle.code.specs.declared.Card.{Card}
-use Rattle.receiving.specs.Readings.{streamsOf, Yield, yields, refuses, readByteOf, readFrameOf}
+use Rattle.code.specs.declared.Sizes.{Sizes}
+use Rattle.receiving.specs.Readings.{Yield, yields, refuses, readByteOf, readFrameOf}
 use Rattle.receiving.specs.Answers.{Reply, waiting, refused}
 use Rattle.receiving.specs.declared.Reading.{Reading}
 
--- the streams of a card, held to what the tables have
-abbrev pub kOf : Card → ℕ
-kOf c = min (c .k) 4
-
-abbrev pub pOf : Card → ℕ
-pOf c = min (c .p) 8
+-- the sizes of a card, held to what the tables have
+abbrev pub sizesIn : Card → Sizes
+sizesIn c = sizesOf (c .k) (c .p) (c .m)
 
 -- the place of a frame in registers that begin with the frame that is decided next: m after it, less at the start
 abbrev pub placeOf : ℕ → ℕ → ℕ
@@ -60,8 +59,8 @@ receiveOf x s number y = settledOf x s (admitOf (x .card s .number) (x .received
 
 -- a frame as a byte
 unfoldable pub receiveByteOf : {S : Type 0} → Circuit S → S → ℕ → ℕ → Reply S
-receiveByteOf x s number f = receiveOf x s number (readByteOf f (streamsOf (x .card s .k) (x .card s .p)))
+receiveByteOf x s number f = receiveOf x s number (readByteOf f (sizesIn (x .card s) .n))
 
 -- a frame as readings
 unfoldable pub receiveReadingsOf : {S : Type 0} → Circuit S → S → ℕ → List Reading → Reply S
-receiveReadingsOf x s number readings = receiveOf x s number (readFrameOf readings (streamsOf (x .card s .k) (x .card s .p)))
+receiveReadingsOf x s number readings = receiveOf x s number (readFrameOf readings (sizesIn (x .card s) .n))

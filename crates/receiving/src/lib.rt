@@ -4,10 +4,10 @@ use card::Refusal;
 use card::Verdict;
 use code::MOST_FRAMES;
 ghost use mathlib.Core.Path.{_≡_};
-ghost use Prim.Native.Nat.{_≤_};
+ghost use Prim.Native.Nat.{_≤_, min};
 ghost use Rattle.card.specs.Outcome.{outcomeOf};
 ghost use Rattle.receiving.specs.Opening.{countedAt};
-ghost use Rattle.receiving.specs.Readings.{streamsOf, yieldOf, frameYieldOf, digitOf, readByteOf, readFrameOf};
+ghost use Rattle.receiving.specs.Readings.{yieldOf, frameYieldOf, digitOf, readByteOf, readFrameOf};
 ghost use Rattle.receiving.specs.Receive.{admitOf};
 
 // A level, or the mark 'erased'. A level close to zero is a guess, and is erased as well.
@@ -49,18 +49,11 @@ pub fn frames_at_opening(verdict: Verdict) -> u32
     }
 }
 
-// n, held to the digits of a byte.
-pub fn stream_count(k: usize, p: usize) -> usize
-    ensures { λ r. ⌜ r ≡ streamsOf k p ⌝ }
+// A byte is its frame, with nothing erased, unless it has a digit beyond its n streams.
+pub fn read_byte(frame: u8, n: usize) -> ReadFrame
+    ensures { λ r. ⌜ frameYieldOf r ≡ readByteOf frame n ⌝ }
 {
-    bits::at_most(bits::at_most(k, 4) + bits::at_most(p, 8), 8)
-}
-
-// A byte is its frame, with nothing erased, unless it has a digit beyond its streams.
-pub fn read_byte(frame: u8, k: usize, p: usize) -> ReadFrame
-    ensures { λ r. ⌜ frameYieldOf r ≡ readByteOf frame (streamsOf k p) ⌝ }
-{
-    if bits::beyond(frame, stream_count(k, p)) {
+    if bits::beyond(frame, n) {
         ReadFrame::Refused(Refusal::DigitBeyondStreams)
     } else {
         ReadFrame::Frame {
@@ -123,10 +116,10 @@ fn frame_of(readings: [Reading; 8], n: usize) -> ReadFrame
 }
 
 // The frame that readings make. Those after the n-th are not looked at.
-pub fn read_frame(readings: [Reading; 8], k: usize, p: usize) -> ReadFrame
-    ensures { λ r. ⌜ frameYieldOf r ≡ readFrameOf readings (streamsOf k p) ⌝ }
+pub fn read_frame(readings: [Reading; 8], n: usize) -> ReadFrame
+    ensures { λ r. ⌜ frameYieldOf r ≡ readFrameOf readings (min n 8) ⌝ }
 {
-    frame_of(readings, stream_count(k, p))
+    frame_of(readings, bits::at_most(n, 8))
 }
 
 // A frame under a card number, for a session with this number of its own and so many frames received: refused by 14, then 15, then its own

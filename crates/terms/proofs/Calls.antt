@@ -1,9 +1,9 @@
 -- A receiving call by the page: what its readings yield, and by which number it is refused. It is what the session's own definition says of it.
 use Prim.Native.Nat.{ℕ, zero, suc, _+_, _*_, _^_, _≤_, _<_}
-use mathlib.Core.Path.{_≡_, refl, sym, ap, ap₂, _∙_}
+use mathlib.Core.Path.{_≡_, refl, sym, ap, _∙_}
 use mathlib.Core.Bool.{Bool, true, false, cond, not}
 use mathlib.Core.Logic.{⊎-elim}
-use mathlib.Core.List.{List, [], _∷_}
+use mathlib.Core.List.{[], _∷_}
 use native.Mathlib.Nat.{zero-mul, suc-mul}
 use native.Mathlib.Omega.{arith}
 use lib.ListN.{getD}
@@ -23,7 +23,7 @@ use Rattle.receiving.specs.Calls as call
 use Rattle.receiving.specs.Calls.{Call, byte, readings, numberIn}
 use Rattle.receiving.specs.Readings as yield
 use Rattle.receiving.specs.Readings.{Yield, yields, refuses}
-use Rattle.receiving.specs.Receive.{admitOf}
+use Rattle.receiving.specs.Receive.{sizesIn, admitOf}
 use Rattle.receiving.specs.declared.Reading.{Reading}
 use Rattle.receiving.specs.declared.Reading.the-variants.{Level, Erased}
 use Rattle.receiving.proofs.Outcomes.{admission}
@@ -105,10 +105,10 @@ pub admission-is : (c : Card) → Guarantees c → (t : ℕ) (a : Call)
     → admission c t a ≡ settled (yields (call.frameIn (c .k + c .p) a) (call.erasedIn (c .k + c .p) a)) refuses (refusal readNow c t a)
 unfolding admission admitOf refusal numberIn digitsOf yield.readByteOf yield.readFrameOf yield.faults call.frameIn call.erasedIn
 admission-is c G t (byte number f) =
-    let n : yield.streamsOf (c .k) (c .p) ≡ c .k + c .p = omega (arith, G .k-most, G .n-most) in
+    let n : sizesIn c .n ≡ c .k + c .p = omega (arith, G .k-most, G .n-most) in
     rw (n, full-is) (sym (in-order (eqb number (c .number)) (ltb t mostFrames) (leb (2 ^ (c .k + c .p)) f) false (yields f 0)))
 admission-is c G t (readings number levels) =
-    let n : yield.streamsOf (c .k) (c .p) ≡ c .k + c .p = omega (arith, G .k-most, G .n-most) in
+    let n : sizesIn c .n ≡ c .k + c .p = omega (arith, G .k-most, G .n-most) in
     let k = c .k + c .p in
     let y = yields (call.frameIn k (readings number levels)) (call.erasedIn k (readings number levels)) in
     let small = lt-leb (2 ^ k) _ (from-digits-lt k (λ s. is 1 (readNow (getD levels s (Level nan)))) (λ s l. omega (arith, is-le 1 (readNow (getD levels s (Level nan)))))) in

@@ -4,7 +4,7 @@ mod lines;
 mod records;
 
 use card::Verdict;
-use outcomes::LONGEST_CARD;
+use outcomes::MOST_CARD_BYTES;
 use outcomes::stated_length;
 
 // The longest input, and one byte to tell that there is more.
@@ -15,7 +15,7 @@ fn trace(input: &[u8]) {
     let start = bits::at_most(2, input.len());
     let rest = &input[start..];
     let stated = stated_length(input);
-    if LONGEST_CARD < stated {
+    if MOST_CARD_BYTES < stated {
         lines::too_long();
         return;
     }

@@ -1,1 +1,3 @@
 pub mod Voting
+pub mod WhoVotes
+pub mod ErasedDigits

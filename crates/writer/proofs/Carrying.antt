@@ -10,7 +10,7 @@ use Rattle.code.specs.Bench.{P}
 use Rattle.code.specs.declared.Card.{Card}
 use Rattle.card.specs.Bench.{cardP}
 use Rattle.card.specs.Fields.{Fields, cardOf}
-use Rattle.card.specs.Layout.{Acceptable}
+use Rattle.card.specs.Layout.{longestCard, Acceptable}
 use Rattle.card.specs.Outcome.{Outcome, CardOutcome, outcomeOf}
 use Rattle.card.specs.Outcome.Outcome.{accepted, refused}
 use Rattle.card.specs.Promise.{CardPromise}
@@ -50,7 +50,7 @@ module _ {rule : CardRule} {card : List ℕ} {read : CardRead} (promise : CardPr
   read-as = sym (promise .is-read) ∙ ap (λ (o : Outcome). record { outcome = o; card = read .card }) e
 
   -- a card that is accepted has a written form that is no longer than any card
-  pub accepted-length : length (written (read .card)) ≤ 1163
+  pub accepted-length : length (written (read .card)) ≤ longestCard
   accepted-length = written-form (read .card) .length-most rule card read-as
 
 -- ---- the claims of a call

@@ -9,7 +9,7 @@ use Rattle.bits.proofs.Cases.{same-or-not}
 use Rattle.code.specs.Checks.{Orthogonal}
 use Rattle.code.specs.declared.Card.{Card}
 use Rattle.card.specs.Fields.{Fields, cardOf}
-use Rattle.card.specs.Layout.{optional, layoutHead, layoutRows, layoutStreams, layout, InRanges, TrulyOrthogonal}
+use Rattle.card.specs.Layout.{optional, layoutHead, layoutRows, layoutStreams, layout, InRanges, longestCard, TrulyOrthogonal}
 use Rattle.card.specs.Written.{stated, fieldsOf, written}
 use Rattle.card.specs.Outcome.{CardOutcome}
 use Rattle.card.specs.Outcome.Outcome.{accepted}
@@ -119,7 +119,7 @@ module _ (c : Card) where
   only-form bytes f s =
       ap (λ (c : Card). layout (fieldsOf c)) (sym (s .card-is)) ∙ ap layout (plain-back f (s .acceptable .limits)) ∙ sym (s .acceptable .bytes-are)
 
-  form-length : (rule : CardRule) (bytes : List ℕ) → ReadsUnder rule bytes c → length (written c) ≤ 1163
+  form-length : (rule : CardRule) (bytes : List ℕ) → ReadsUnder rule bytes c → length (written c) ≤ longestCard
   form-length rule bytes e =
       let f = form rule bytes e in
       omega (arith, layout-length (f .0) (f .1 .acceptable .limits .ranges), ap length (f .1 .acceptable .bytes-are))

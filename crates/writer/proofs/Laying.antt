@@ -10,6 +10,7 @@ use lib.Pow.{pow-mono, shl-exact}
 use Rattle.bits.specs.Sums.{upTo}
 use Rattle.bits.proofs.Lists.{upTo-length, upTo-more}
 use Rattle.card.specs.Fields.{Stream}
+use Rattle.code.specs.Limits.{mostChecks, checkStart}
 use Rattle.card.specs.Layout.{stands, mapOf, layoutMasks, optional, layoutHead, allRows, layoutRows, layoutChecks, layoutStreams}
 use Rattle.card.proofs.LayoutLaws as laws
 use Rattle.card.specs.Written.{stated, headOf, masksAt, rowsOf, checksOf, streamOf, streamsOf}
@@ -122,10 +123,10 @@ checks-append (vs ∷ checks) more =
     ∙ ap (λ l. mapOf vs ∷ l) (sym (append-assoc (layoutMasks vs) (layoutChecks checks) (layoutChecks more)))
 
 pub checks-next : (checks : List ℕ) (i p q : ℕ)
-    → layoutChecks (checksOf checks i q p) ++ layoutChecks (masksAt checks (i * 128 + q * 8) p ∷ []) ≡ layoutChecks (checksOf checks i (q + 1) p)
+    → layoutChecks (checksOf checks i q p) ++ layoutChecks (masksAt checks (checkStart i q) p ∷ []) ≡ layoutChecks (checksOf checks i (q + 1) p)
 unfolding checksOf
 checks-next checks i p q =
-    let at : ℕ → List ℕ = λ n. masksAt checks (i * 128 + n * 8) p in
+    let at : ℕ → List ℕ = λ n. masksAt checks (checkStart i n) p in
     sym
     (ap (λ l. layoutChecks (map at l)) (upTo-more q (λ n. n))
     ∙ ap layoutChecks (map-append at (upTo q (λ n. n)) (q ∷ []))
@@ -144,11 +145,11 @@ pub stream-parts : (checks : List ℕ) (i count p : ℕ)
 unfolding layoutStreams streamOf
 stream-parts checks i count p = ap (λ l. count ∷ l) (sym (append-nil (layoutChecks (checksOf checks i count p))))
 
-pub streams-next : (counts checks : List ℕ) (p i : ℕ) {count : ℕ} → count ≡ min (getD counts i 0) 16
+pub streams-next : (counts checks : List ℕ) (p i : ℕ) {count : ℕ} → count ≡ min (getD counts i 0) mostChecks
     → layoutStreams (streamsOf counts checks i p) ++ layoutStreams (streamOf checks i count p ∷ []) ≡ layoutStreams (streamsOf counts checks (i + 1) p)
 unfolding streamsOf
 streams-next counts checks p i e =
-    let at : ℕ → Stream = λ n. streamOf checks n (min (getD counts n 0) 16) p in
+    let at : ℕ → Stream = λ n. streamOf checks n (min (getD counts n 0) mostChecks) p in
     ap (λ n. layoutStreams (map at (upTo i (λ n. n))) ++ layoutStreams (streamOf checks i n p ∷ [])) e
     ∙ sym
     (ap (λ l. layoutStreams (map at l)) (upTo-more i (λ n. n))

@@ -7,6 +7,7 @@ use native.Mathlib.Numerals.{add-one}
 use native.Mathlib.Omega.{arith}
 use lib.ListN.{length, getD, length-append}
 use Rattle.bits.specs.Sums.{upTo}
+use Rattle.code.specs.Limits.{mostChecks, checkStart}
 use Rattle.card.specs.Layout.{layoutMasks, allRows, layoutRows, layoutChecks, layoutStreams}
 use Rattle.card.proofs.CardLength as card
 use Rattle.card.proofs.CardLength.{few-generators}
@@ -42,19 +43,19 @@ checks-length checks i (suc q) p h =
       arith,
       ap (λ n. length (layoutChecks (checksOf checks i n p))) (sym (add-one q)),
       ap length (checks-next checks i p q),
-      length-append (layoutChecks (checksOf checks i q p)) (layoutChecks (masksAt checks (i * 128 + q * 8) p ∷ [])),
+      length-append (layoutChecks (checksOf checks i q p)) (layoutChecks (masksAt checks (checkStart i q) p ∷ [])),
       checks-length checks i q p h,
-      check-length checks (i * 128 + q * 8) p h,
+      check-length checks (checkStart i q) p h,
     )
 
 -- ---- the information streams
 stream-length : (checks : List ℕ) (i count p : ℕ)
-    → count ≤ 16 → p ≤ 8 → length (layoutStreams (streamOf checks i count p ∷ [])) ≤ 529
+    → count ≤ mostChecks → p ≤ 8 → length (layoutStreams (streamOf checks i count p ∷ [])) ≤ 1 + mostChecks * 33
 unfolding layoutStreams streamOf
 stream-length checks i count p l h =
     omega (arith, checks-length checks i count p h, length-append {A = ℕ} (layoutChecks (checksOf checks i count p)) [])
 
-pub streams-length : (counts checks : List ℕ) (k p : ℕ) → p ≤ 8 → length (layoutStreams (streamsOf counts checks k p)) ≤ 529 * k
+pub streams-length : (counts checks : List ℕ) (k p : ℕ) → p ≤ 8 → length (layoutStreams (streamsOf counts checks k p)) ≤ (1 + mostChecks * 33) * k
 unfolding upTo layoutStreams streamsOf
 streams-length counts checks zero p h = omega arith
 streams-length counts checks (suc k) p h =
@@ -62,7 +63,7 @@ streams-length counts checks (suc k) p h =
       arith,
       ap (λ n. length (layoutStreams (streamsOf counts checks n p))) (sym (add-one k)),
       ap length (streams-next counts checks p k refl),
-      length-append (layoutStreams (streamsOf counts checks k p)) (layoutStreams (streamOf checks k (min (getD counts k 0) 16) p ∷ [])),
+      length-append (layoutStreams (streamsOf counts checks k p)) (layoutStreams (streamOf checks k (min (getD counts k 0) mostChecks) p ∷ [])),
       streams-length counts checks k p h,
-      stream-length checks k (min (getD counts k 0) 16) p (omega arith) h,
+      stream-length checks k (min (getD counts k 0) mostChecks) p (omega arith) h,
     )

@@ -9,7 +9,7 @@ use lib.ListN.{length, take}
 use lib.IntN.{ℤ, pos}
 use Rattle.code.specs.declared.Card.{Card}
 use Rattle.card.specs.Fields.{Fields, cardOf}
-use Rattle.card.specs.Layout.{Acceptable}
+use Rattle.card.specs.Layout.{longestCard, Acceptable}
 use Rattle.card.specs.Written.{written}
 use Rattle.card.specs.Outcome.Outcome.{accepted}
 use Rattle.card.specs.Reading.{readUnder, readCard}
@@ -36,7 +36,7 @@ pub record WrittenForm (c : Card) : Type 0 where
   pub states-it : (rule : CardRule) (bytes : List ℕ) → ReadsUnder rule bytes c → (f : Fields) × States Present c (written c) f
   -- .. and no other
   pub one-only : (bytes : List ℕ) (f : Fields) → States Present c bytes f → written c ≡ bytes
-  pub length-most : (rule : CardRule) (bytes : List ℕ) → ReadsUnder rule bytes c → length (written c) ≤ 1163
+  pub length-most : (rule : CardRule) (bytes : List ℕ) → ReadsUnder rule bytes c → length (written c) ≤ longestCard
   -- of no acceptable bytes of the card are there fewer
   pub shortest : (rule : CardRule) (bytes : List ℕ) (f : Fields) → States rule c bytes f → length (written c) ≤ length bytes
 

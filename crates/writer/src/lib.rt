@@ -11,6 +11,7 @@ ghost use Rattle.card.specs.Written.{fieldsWith};
 ghost use Rattle.writer.specs.Outcome.{answerOf, writeUnder};
 ghost use Rattle.writer.specs.Claims.{WrittenForm};
 use card::Refusal;
+use code::CHECK_WORDS;
 use code::Card;
 
 // What writing a card comes to: the count of bytes, or the refusal.
@@ -27,8 +28,8 @@ fn lay_out<'a>(
     p: usize,
     m: usize,
     generators: &'a [u32; 32],
-    counts: &'a [usize; 4],
-    checks: &'a [u32; 512],
+    counts: &'a [u32; 4],
+    checks: &'a [u32; CHECK_WORDS],
 ) -> usize
     requires { ⌜ (k ≤ 4) × (k + p ≤ 8) × (m ≤ 31) ⌝ }
     ensures { λ r. ⌜ Wrote (now (output .entry)) 0 (layout (fieldsWith number k p m (now (generators .entry)) (now (counts .entry)) (now (checks .entry)))) (now (output .exit)) r ⌝ }

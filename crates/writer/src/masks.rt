@@ -3,6 +3,7 @@
 ghost use mathlib.Core.Path.{_≡_};
 ghost use mathlib.Core.List.{[], _∷_};
 ghost use Prim.Native.Nat.{_+_, _*_, _^_, _<_, _≤_};
+ghost use Rattle.code.specs.Limits.{checkWords};
 ghost use Rattle.card.specs.Layout.{stands, mapOf, layoutMasks};
 ghost use Rattle.outcomes.specs.Wrote.{Wrote};
 ghost use Rattle.card.specs.Written.{masksAt};
@@ -33,7 +34,7 @@ fn mask(output: &mut [u8], at: usize, value: u32) -> usize
 
 // The masks of p parity streams that are not zero, from a place of a table on.
 pub(crate) fn masks(output: &mut [u8], at: usize, table: &[u32], start: usize, p: usize) -> usize
-    requires { ⌜ (start ≤ 512) × (p ≤ 8) × (at + 4 * p ≤ 4096) ⌝ }
+    requires { ⌜ (start ≤ checkWords) × (p ≤ 8) × (at + 4 * p ≤ 4096) ⌝ }
     ensures { λ r. ⌜ Wrote (now (output .entry)) at (layoutMasks (masksAt (now (table .entry)) start p)) (now (output .exit)) r ⌝ }
 {
     let mut end = at;
@@ -54,7 +55,7 @@ fn stands(mask: u32) -> u32
 
 // The map of the masks of p parity streams.
 pub(crate) fn map(table: &[u32], start: usize, p: usize) -> u32
-    requires { ⌜ (start ≤ 512) × (p ≤ 8) ⌝ }
+    requires { ⌜ (start ≤ checkWords) × (p ≤ 8) ⌝ }
     ensures { λ r. ⌜ (r ≡ mapOf (masksAt (now (table .entry)) start p)) × (r < 2 ^ p) ⌝ }
 {
     let mut map: u32 = 0;

@@ -2,11 +2,15 @@
 ghost use mathlib.Core.Path.{_≡_};
 ghost use mathlib.Core.List.{[], _∷_};
 ghost use Prim.Native.Nat.{_+_, _*_, _<_, _≤_};
+ghost use Rattle.code.specs.Limits.{mostChecks, checkWords};
 ghost use Rattle.card.specs.Layout.{mapOf, layoutMasks, optional, layoutHead, allRows, layoutRows, layoutChecks, layoutStreams};
 ghost use Rattle.outcomes.specs.Wrote.{Wrote};
 ghost use Rattle.card.specs.Written.{stated, headOf, masksAt, rowsOf, streamOf, streamsOf};
 use crate::masks;
 use crate::masks::byte;
+use code::CHECK_STRIDE;
+use code::CHECK_WORDS;
+use code::MOST_CHECKS;
 
 // A field's bit of byte 0.
 fn stated(default: usize, value: usize) -> u8
@@ -84,8 +88,8 @@ pub(crate) fn generators(
 }
 
 // A check: its map byte and the masks.
-fn check(output: &mut [u8], at: usize, checks: &[u32; 512], start: usize, p: usize) -> usize
-    requires { ⌜ (start ≤ 512) × (p ≤ 8) × (at + 33 ≤ 4096) ⌝ }
+fn check(output: &mut [u8], at: usize, checks: &[u32; CHECK_WORDS], start: usize, p: usize) -> usize
+    requires { ⌜ (start ≤ checkWords) × (p ≤ 8) × (at + 33 ≤ 4096) ⌝ }
     ensures { λ r. ⌜ Wrote (now (output .entry)) at (layoutChecks (masksAt (now (checks .entry)) start p ∷ [])) (now (output .exit)) r ⌝ }
 {
     let after_map = byte(output, at, masks::map(checks, start, p) as u8);
@@ -96,18 +100,18 @@ fn check(output: &mut [u8], at: usize, checks: &[u32; 512], start: usize, p: usi
 fn stream(
     output: &mut [u8],
     at: usize,
-    checks: &[u32; 512],
+    checks: &[u32; CHECK_WORDS],
     i: usize,
     count: usize,
     p: usize,
 ) -> usize
-    requires { ⌜ (i < 4) × (count ≤ 16) × (p ≤ 8) × (at + 529 ≤ 4096) ⌝ }
+    requires { ⌜ (i < 4) × (count ≤ mostChecks) × (p ≤ 8) × (at + (1 + mostChecks * 33) ≤ 4096) ⌝ }
     ensures { λ r. ⌜ Wrote (now (output .entry)) at (layoutStreams (streamOf (now (checks .entry)) i count p ∷ [])) (now (output .exit)) r ⌝ }
 {
     let mut end = byte(output, at, count as u8);
     let mut q = 0;
     while q < count {
-        end = check(output, end, checks, i * 128 + q * 8, p);
+        end = check(output, end, checks, i * CHECK_STRIDE + q * 8, p);
         q += 1;
     }
     end
@@ -117,18 +121,25 @@ fn stream(
 pub(crate) fn streams<'a>(
     output: &mut [u8],
     at: usize,
-    counts: &'a [usize; 4],
-    checks: &'a [u32; 512],
+    counts: &'a [u32; 4],
+    checks: &'a [u32; CHECK_WORDS],
     k: usize,
     p: usize,
 ) -> usize
-    requires { ⌜ (k ≤ 4) × (p ≤ 8) × (at + 529 * k ≤ 4096) ⌝ }
+    requires { ⌜ (k ≤ 4) × (p ≤ 8) × (at + (1 + mostChecks * 33) * k ≤ 4096) ⌝ }
     ensures { λ r. ⌜ Wrote (now (output .entry)) at (layoutStreams (streamsOf (now (counts .entry)) (now (checks .entry)) k p)) (now (output .exit)) r ⌝ }
 {
     let mut end = at;
     let mut i = 0;
     while i < k {
-        end = stream(output, end, checks, i, bits::at_most(counts[i], 16), p);
+        end = stream(
+            output,
+            end,
+            checks,
+            i,
+            bits::at_most(bits::index(counts[i]), MOST_CHECKS),
+            p,
+        );
         i += 1;
     }
     end

@@ -36,7 +36,7 @@ rem-digits c =
 
 loop-holds : tie.Need-loop-holds Inv-loop μ-loop
 loop-holds c =
-    let a = c .before .before .before .args in (
+    let a = c .before .before .before .before .before .args in (
       omega arith,
       ap (λ (x : ℕ). a .info % x) (c .shift-up .ensures ∙ ap (shiftUp 1) (c .before .before .at-most .ensures)) ∙ frame-start (a .generators .now) (a .registers .now) (a .k) (a .info),
     )
@@ -52,7 +52,7 @@ shift-up-requires-2 c κs = tt
 
 -- one turn adds the parity digit at its place
 turn : (c : tie.After-shift-up2 Inv-loop μ-loop) →
-    let a = c .before .before .before .before .before .before .before .args in
+    let a = c .before .before .before .before .before .before .before .before .before .args in
     let l = c .before .before .before .loop in
     l .digits + c .shift-up2 .result
     ≡ fromDigits (min (a .k) 4 + l .j) (digitBy (a .generators .now) (a .registers .now) (a .k) (a .info))
@@ -65,7 +65,7 @@ turn c =
 
 add-digits : tie.Need-add-digits Inv-loop μ-loop
 add-digits c =
-    let a = c .before .before .before .before .before .before .before .args in
+    let a = c .before .before .before .before .before .before .before .before .before .args in
     record { fits = omega (arith, turn c, frame-more-fits (a .generators .now) (a .registers .now) (a .k) (a .info) (c .before .before .before .loop .j) (omega arith)) }
 
 add-j : tie.Need-add-j Inv-loop μ-loop
@@ -76,13 +76,13 @@ loop-less c = omega arith
 
 loop-again : tie.Need-loop-again Inv-loop μ-loop
 loop-again c =
-    let a = c .before .before .before .before .before .before .before .args in
+    let a = c .before .before .before .before .before .before .before .before .before .args in
     (omega arith, turn c ∙ frame-more (a .generators .now) (a .registers .now) (a .k) (a .info) (c .before .before .before .loop .j) (omega arith))
 
 returns : tie.Need-returns Inv-loop μ-loop
 unfolding frameBy
 returns c =
-    let a = c .before .before .before .before .before .args in
+    let a = c .before .before .before .before .before .before .before .args in
     let e : min (a .k) 4 + c .before .loop .j ≡ min (a .k) 4 + min (a .p) (8 - min (a .k) 4) = omega arith in
     c .before .loop .inv .1 ∙ ap (λ (n : ℕ). fromDigits n (digitBy (a .generators .now) (a .registers .now) (a .k) (a .info))) e
 

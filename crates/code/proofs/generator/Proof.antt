@@ -4,21 +4,18 @@ use borrow.Author.Needs.{needs}
 use Rattle.code.proofs.generator.Statement.{statement}
 use Rattle.code.proofs.generator.Tie as tie
 
-mul-result : tie.Need-mul-result
-mul-result c = search needs
+mul-word : tie.Need-mul-word
+mul-word c = search needs
 
-add-result : tie.Need-add-result
-add-result c = search needs
+add-word : tie.Need-add-word
+add-word c = search needs
 
-mul-result-2 : tie.Need-mul-result-2
-mul-result-2 c = search needs
-
-element-copy-out-result : tie.Need-element-copy-out-result
-element-copy-out-result c = search needs
+word-requires : tie.Need-word-requires
+word-requires c κs = tt
 
 returns : tie.Need-returns
 unfolding generatorMask
-returns c = simp (lt-ltb _ _ (c .before .before .if1 .taken), lt-ltb _ _ (c .before .if2 .taken))
+returns c = simp (lt-ltb _ _ (c .before .before .if1 .taken), lt-ltb _ _ (c .before .if2 .taken)) (c .word .ensures)
 
 returns-2 : tie.Need-returns-2
 unfolding generatorMask
@@ -29,13 +26,4 @@ unfolding generatorMask
 returns-3 c = simp (le-ltb _ _ (c .if1 .left))
 
 pub generator-spec : {M : Type 1} → statement M
-generator-spec =
-    tie.close
-    (tie.spec
-    mul-result
-    add-result
-    mul-result-2
-    element-copy-out-result
-    returns
-    returns-2
-    returns-3)
+generator-spec = tie.close (tie.spec mul-word add-word word-requires returns returns-2 returns-3)

@@ -40,7 +40,7 @@ loop-less c = omega arith
 loop-again : tie.Need-loop-again Inv-loop μ-loop
 loop-again c =
     let l = c .before .before .before .loop in
-    let a = c .before .before .before .before .args in (
+    let a = c .before .before .before .before .before .args in (
       omega arith,
       ap₂ bitXor (l .inv .1) (ap₂ _*_ (c .before .generator .ensures) (c .digit .ensures))
           ∙ sym (xor-more (l .i) (λ b. generatorMask (a .generators .now) b (a .j) * bit (a .x) b)),
@@ -49,7 +49,7 @@ loop-again c =
 returns : tie.Need-returns Inv-loop μ-loop
 unfolding generatorSum
 returns c =
-    let a = c .before .before .args in
+    let a = c .before .before .before .args in
     c .before .loop .inv .1
     ∙ ap (λ (n : ℕ). xorBelow n (λ b. generatorMask (a .generators .now) b (a .j) * bit (a .x) b))
     (le-antisymm (c .before .loop .inv .0) (c .loop-test .left))

@@ -40,9 +40,9 @@ loop-less c = omega arith
 
 loop-again : tie.Need-loop-again Inv-loop μ-loop
 loop-again c =
-    let l = c .before .before .before .before .loop in
-    let a = c .before .before .before .before .before .before .args in
-    let x = c .before .before .generator .result in
+    let l = c .before .before .before .loop in
+    let a = c .before .before .before .before .before .before .before .args in
+    let x = c .before .generator .result in
     let y = c .word .result in
     let hs : l .sum < 2 ^ 32 = omega arith in
     let hx : x < 2 ^ 32 = omega arith in
@@ -50,13 +50,13 @@ loop-again c =
       omega arith,
       masked-lt (l .sum) x y hs hx hy,
       masked-step (l .sum) x y hs hx hy (λ b. dot (generatorMask (a .generators .now) b (a .j)) (getD (a .registers .now) b 0)) (l .i) (l .inv .2)
-          (ap₂ dot (c .before .before .generator .ensures) (c .word .ensures)),
+          (ap₂ dot (c .before .generator .ensures) (c .word .ensures)),
     )
 
 returns : tie.Need-returns Inv-loop μ-loop
 unfolding parityBy
 returns c =
-    let a = c .before .before .before .args in
+    let a = c .before .before .before .before .before .args in
     c .before .loop .inv .2
     ∙ ap (λ (n : ℕ). sumBelow n (λ b. dot (generatorMask (a .generators .now) b (a .j)) (getD (a .registers .now) b 0)) % 2)
     (le-antisymm (c .before .loop .inv .0) (c .loop-test .left) ∙ c .before .before .at-most .ensures)

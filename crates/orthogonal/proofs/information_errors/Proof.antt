@@ -48,10 +48,10 @@ loop-less c = search needs
 
 loop-again : tie.Need-loop-again Inv-loop μ-loop
 loop-again c =
-    let l = c .before .before .before .before .before .before .loop in
+    let l = c .before .before .before .before .loop in
     let a = c .before .before .before .before .before .before .before .args in
     let w = c .before .word2 in
-    let g = c .before .before .before .word in (
+    let g = c .before .before .word in (
       omega arith,
       λ b h.
           let pairs : ℕ → ℕ → ℕ = λ x y. sumBelow 32 (λ a. bit x a * back (bit y) a b) in
@@ -63,7 +63,7 @@ loop-again c =
 
 returns : tie.Need-returns Inv-loop μ-loop
 returns c =
-    let a = c .before .before .args in
+    let a = c .before .before .before .before .args in
     λ b h.
     c .before .loop .inv .1 b h
     ∙ (ap (λ n. sumBelow n (λ j. sumBelow 32 (λ i. bit (getD (a .masks .now) j 0) i * back (bit (getD (a .generators .now) (a .s * 8 + j) 0)) i b)) % 2)

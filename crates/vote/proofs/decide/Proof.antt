@@ -1,22 +1,31 @@
 -- The loop has decided the errors of the streams that it passed.
-use Prim.Native.Nat.{_-_, _^_, _≤_, _<_}
-use mathlib.Core.Path.{_≡_, refl, ap₂, _∙_}
+use Prim.Native.Nat.{_+_, _-_, _^_, _≤_, _<_}
+use mathlib.Core.Path.{_≡_, refl, sym, ap₂, _∙_}
 use native.Mathlib.Nat.{le-antisymm}
 use native.Mathlib.Omega.{arith}
 use borrow.Author.Needs.{needs}
+use borrow.Author.Tests.{lt-ltb, le-ltb}
 use Rattle.bits.specs.Sums.{sumBelow}
 use Rattle.bits.specs.Digits.{fromDigits, shiftUp}
-use Rattle.bits.proofs.Words.{placed-fits}
-use Rattle.vote.specs.Voting.{decideBy}
-use Rattle.vote.proofs.Voting.{errorOf, error-of, majority-lt, errors-lt, errors-more}
+use Rattle.vote.specs.Voting.{ifWhole, decideBy}
+use Rattle.vote.proofs.Voting.{whole, errorOf, errors-more}
 use Rattle.vote.proofs.decide.Statement.{statement}
 use Rattle.vote.proofs.decide.Tie as tie
 
 abbrev Inv-loop : tie.InvT-loop
-Inv-loop counts checks syndromes k p streams parities errors₀ i₀ errors i = (i ≤ streams) × (errors ≡ fromDigits i (errorOf counts checks syndromes parities))
+Inv-loop voting counts checks syndromes k p streams parities errors₀ i₀ errors i =
+    (i ≤ streams) × (errors ≡ fromDigits i (errorOf voting counts checks syndromes parities))
 
 abbrev μ-loop : tie.MeasureT-loop
-μ-loop counts checks syndromes k p streams parities errors₀ i₀ errors i = streams - i
+μ-loop voting counts checks syndromes k p streams parities errors₀ i₀ errors i = streams - i
+
+returns : tie.Need-returns Inv-loop μ-loop
+unfolding decideBy ifWhole
+returns c = rw (lt-ltb _ _ (c .if1 .taken)) refl
+
+returns-2 : tie.Need-returns-2 Inv-loop μ-loop
+unfolding decideBy ifWhole
+returns-2 c = rw (le-ltb _ _ (c .before .if1 .left), lt-ltb _ _ (c .if2 .taken)) refl
 
 at-most-requires : tie.Need-at-most-requires Inv-loop μ-loop
 at-most-requires c κs = search needs
@@ -28,17 +37,23 @@ loop-holds : tie.Need-loop-holds Inv-loop μ-loop
 unfolding sumBelow fromDigits
 loop-holds c = (omega arith, refl)
 
-mul-at-most : tie.Need-mul-at-most Inv-loop μ-loop
-mul-at-most c = search needs
+mul-ones : tie.Need-mul-ones Inv-loop μ-loop
+mul-ones c = search needs
 
-element-copy-out-at-most : tie.Need-element-copy-out-at-most Inv-loop μ-loop
-element-copy-out-at-most c = search needs
+element-copy-out-ones : tie.Need-element-copy-out-ones Inv-loop μ-loop
+element-copy-out-ones c = search needs
 
-at-most-requires-3 : tie.Need-at-most-requires-3 Inv-loop μ-loop
-at-most-requires-3 c κs = search needs
+ones-requires : tie.Need-ones-requires Inv-loop μ-loop
+ones-requires c κs = search needs
 
-votes-requires : tie.Need-votes-requires Inv-loop μ-loop
-votes-requires c κs = search needs
+mul-index : tie.Need-mul-index Inv-loop μ-loop
+mul-index c = search needs
+
+element-copy-out-index : tie.Need-element-copy-out-index Inv-loop μ-loop
+element-copy-out-index c = search needs
+
+index-requires : tie.Need-index-requires Inv-loop μ-loop
+index-requires c κs = search needs
 
 more-than-half-requires : tie.Need-more-than-half-requires Inv-loop μ-loop
 more-than-half-requires c κs = search needs
@@ -49,24 +64,21 @@ cast-errors c = search needs
 shl-errors : tie.Need-shl-errors Inv-loop μ-loop
 shl-errors c = search needs
 
--- what is decided for the stream
-error-is : (c : tie.After-more-than-half Inv-loop μ-loop) →
-    let l = c .before .before .before .before .before .loop in
-    let a = c .before .before .before .before .before .before .before .before .args in
-    c .more-than-half .result ≡ errorOf (a .counts .now) (a .checks .now) (a .syndromes .now) (c .before .before .before .before .before .before .at-most2 .result) (l .i)
-error-is c =
-    let l = c .before .before .before .before .before .loop in
-    let a = c .before .before .before .before .before .before .before .before .args in
-    error-of (a .counts .now) (a .checks .now) (a .syndromes .now) (c .before .before .before .before .before .before .at-most2 .result) (l .i) (c .before .before .at-most3 .ensures) (c .more-than-half .ensures) (c .before .votes .ensures)
+-- the errors with the stream's
+errors-are : (c : tie.After-more-than-half Inv-loop μ-loop) →
+    let turn = c .before .before .before .before .before .before in
+    let a = turn .before .before .before .before .before .before .before .args in
+    let e = turn .loop .errors + shiftUp (c .more-than-half .result) (turn .loop .i) in
+    (e < 2 ^ 32) × (e ≡ fromDigits (turn .loop .i + 1) (errorOf (a .voting .now) (a .counts .now) (a .checks .now) (a .syndromes .now) (turn .before .at-most2 .result)))
+errors-are c =
+    let turn = c .before .before .before .before .before .before in
+    let a = turn .before .before .before .before .before .before .before .args in
+    errors-more (a .voting .now) (a .counts .now) (a .checks .now) (a .syndromes .now) (turn .before .at-most2 .result) (turn .loop .i) (omega arith) (turn .loop .inv .1)
+    (c .before .before .before .ones .ensures) (c .before .index .ensures) (c .more-than-half .ensures)
 
 add-errors : tie.Need-add-errors Inv-loop μ-loop
 unfolding shiftUp
-add-errors c =
-    let l = c .before .before .before .before .before .loop in
-    let a = c .before .before .before .before .before .before .before .before .args in
-    let d : c .more-than-half .result < 2 = rw (error-is c) (majority-lt (a .checks .now) (a .syndromes .now) _ (l .i) _) in
-    let e : l .errors < 2 ^ l .i = rw (l .inv .1) (errors-lt (a .counts .now) (a .checks .now) (a .syndromes .now) _ (l .i)) in
-    record { fits = placed-fits (l .errors) (c .more-than-half .result) (l .i) e d (omega arith) }
+add-errors c = record { fits = errors-are c .0 }
 
 add-i : tie.Need-add-i Inv-loop μ-loop
 add-i c = search needs
@@ -76,19 +88,17 @@ loop-less c = search needs
 
 loop-again : tie.Need-loop-again Inv-loop μ-loop
 unfolding shiftUp
-loop-again c =
-    let l = c .before .before .before .before .before .loop in
-    let a = c .before .before .before .before .before .before .before .before .args in
-    (omega arith, errors-more (a .counts .now) (a .checks .now) (a .syndromes .now) _ (l .i) (omega arith) (l .inv .1) (error-is c))
+loop-again c = (omega arith, errors-are c .1)
 
-returns : tie.Need-returns Inv-loop μ-loop
+returns-3 : tie.Need-returns-3 Inv-loop μ-loop
 unfolding decideBy
-returns c =
-    let a = c .before .before .before .before .args in
+returns-3 c =
+    let a = c .before .before .before .before .before .before .before .before .args in
     let l = c .before .loop in
     l .inv .1
-    ∙ ap₂ (λ n p. fromDigits n (errorOf (a .counts .now) (a .checks .now) (a .syndromes .now) p))
+    ∙ ap₂ (λ n p. fromDigits n (errorOf (a .voting .now) (a .counts .now) (a .checks .now) (a .syndromes .now) p))
     (le-antisymm (l .inv .0) (c .loop-test .left) ∙ c .before .before .before .at-most .ensures) (c .before .before .at-most2 .ensures)
+    ∙ sym (whole (a .checks .now) (a .syndromes .now) _ (c .before .before .before .before .before .if1 .left) (c .before .before .before .before .if2 .left))
 
 pub decide-spec : {M : Type 1} → statement M
 decide-spec =
@@ -96,13 +106,17 @@ decide-spec =
     (tie.spec
     Inv-loop
     μ-loop
+    returns
+    returns-2
     at-most-requires
     at-most-requires-2
     loop-holds
-    mul-at-most
-    element-copy-out-at-most
-    at-most-requires-3
-    votes-requires
+    mul-ones
+    element-copy-out-ones
+    ones-requires
+    mul-index
+    element-copy-out-index
+    index-requires
     more-than-half-requires
     cast-errors
     shl-errors
@@ -110,4 +124,4 @@ decide-spec =
     add-i
     loop-less
     loop-again
-    returns)
+    returns-3)

@@ -2,7 +2,7 @@ use mathlib.Core.Path.{ap, _∙_}
 use mathlib.Core.List.{_∷_}
 use native.Mathlib.Omega.{arith}
 use lib.ListN.{replicate}
-use Rattle.vote.specs.Voting.{decideBy}
+use Rattle.vote.specs.Voting.{decideByAll}
 use Rattle.burst.proofs.OneParityReceiving.{word-turn}
 use borrow.Author.Needs.{needs}
 use Rattle.burst.proofs.one_parity_receive.hand_corrected.Statement.{statement}
@@ -38,7 +38,7 @@ returns c =
     λ sums checks P sorted counted before taken g e number G o same handing.
     word-turn number g (a .counts .now) checks (a .k) (a .m) G sums e (a .input .now) (a .puts .now) P (pre .4) (a .u) (c .before .corrected .result) before o (pre .2) (omega (arith, pre .3, same))
     (taken (pre .2))
-    (decided .ensures .1 number (a .m) g checks G sorted counted ∙ ap (λ s. decideBy (a .counts .now) checks (s ∷ replicate 7 0) (a .k) 1) (held .ensures))
+    (decided .ensures .1 number (a .m) g checks G sorted counted ∙ ap (λ s. decideByAll (a .counts .now) checks (s ∷ replicate 7 0) (a .k) 1) (held .ensures))
     (c .fed-back .ensures) (c .before .corrected .ensures) handing
 
 pub hand-corrected-spec : {M : Type 1} → statement M

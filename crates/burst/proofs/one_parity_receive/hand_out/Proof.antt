@@ -4,7 +4,7 @@ use mathlib.Core.Path.{_≡_}
 use native.Mathlib.Nat.{le-antisymm}
 use native.Mathlib.Omega.{arith}
 use lib.ListN.{length}
-use Rattle.ballot.specs.Ballot.{Sorted}
+use Rattle.burst_vote.specs.Sorted.{Sorted}
 use Rattle.burst.specs.Registers.{AtLeast, inOne}
 use Rattle.burst.specs.Held.{tables, HandedOut, EveryTables}
 use Rattle.burst.proofs.HandingOut.{hand-on, all-from}

@@ -15,11 +15,14 @@ abbrev μ-loop : tie.MeasureT-loop
 loop-holds : tie.Need-loop-holds Inv-loop μ-loop
 loop-holds c = (omega arith, λ i l. absurd (omega arith))
 
-mul-at-most : tie.Need-mul-at-most Inv-loop μ-loop
-mul-at-most c = omega arith
+mul-index : tie.Need-mul-index Inv-loop μ-loop
+mul-index c = omega arith
 
-element-copy-out-at-most : tie.Need-element-copy-out-at-most Inv-loop μ-loop
-element-copy-out-at-most c = omega arith
+element-copy-out-index : tie.Need-element-copy-out-index Inv-loop μ-loop
+element-copy-out-index c = omega arith
+
+index-requires : tie.Need-index-requires Inv-loop μ-loop
+index-requires c κs = tt
 
 at-most-requires : tie.Need-at-most-requires Inv-loop μ-loop
 at-most-requires c κs = tt
@@ -38,11 +41,12 @@ loop-less c = omega arith
 
 loop-again : tie.Need-loop-again Inv-loop μ-loop
 loop-again c =
-    let l = c .before .before .before .before .loop in
-    let a = c .before .before .before .before .before .args in
-    let least = c .before .at-most .ensures in (
+    let l = c .before .before .before .before .before .loop in
+    let a = c .before .before .before .before .before .before .args in
+    let least = c .before .at-most .ensures in
+    let count = c .before .before .index .ensures in (
       omega arith,
-      below-more (λ i. c .before .at-most .result ≤ getD (a .counts .now) i 0) (l .i) (λ i q. omega (arith, least, l .inv .1 i q)) (omega (arith, least)),
+      below-more (λ i. c .before .at-most .result ≤ getD (a .counts .now) i 0) (l .i) (λ i q. omega (arith, least, l .inv .1 i q)) (omega (arith, least, count)),
     )
 
 returns : tie.Need-returns Inv-loop μ-loop
@@ -58,8 +62,9 @@ least-checks-spec =
     Inv-loop
     μ-loop
     loop-holds
-    mul-at-most
-    element-copy-out-at-most
+    mul-index
+    element-copy-out-index
+    index-requires
     at-most-requires
     mul-dear
     element-copy-out-dear

@@ -2,7 +2,7 @@ use mathlib.Core.Path.{sym, _∙_}
 use native.Mathlib.Omega.{arith}
 use lib.Count.{ones-le}
 use borrow.Author.Needs.{needs}
-use Rattle.ballot.proofs.Sorting.{sorted-decides}
+use Rattle.burst_vote.proofs.Sorting.{sorted-decides}
 use Rattle.burst.proofs.OneParityReceiving.{sorted-small, few-held}
 use Rattle.burst.proofs.one_parity_receive.voted.Statement.{statement}
 use Rattle.burst.proofs.one_parity_receive.voted.Tie as tie

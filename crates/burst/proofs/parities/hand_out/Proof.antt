@@ -8,7 +8,7 @@ use Rattle.burst.specs.Registers.{registers, NoneFrom}
 use Rattle.burst.specs.Parts.{cardFrom}
 use Rattle.burst.specs.Held.{tables, HandedOut}
 use Rattle.burst.proofs.Waiting.{coming-length, syndromes-length, none-beyond}
-use Rattle.burst.proofs.HandingOut.{none-written, after-length, after-none, errors-small, hand-turn, hand-none, all-from}
+use Rattle.burst.proofs.HandingOut.{none-written, after-length, after-none, hand-turn, hand-none, all-from}
 use Rattle.burst.proofs.parities.hand_out.Statement.{statement}
 use Rattle.burst.proofs.parities.hand_out.Tie as tie
 
@@ -53,7 +53,7 @@ shared-slice-read-corrected : tie.Need-shared-slice-read-corrected Inv-loop μ-l
 shared-slice-read-corrected c = omega arith
 
 corrected-requires : tie.Need-corrected-requires Inv-loop μ-loop
-corrected-requires c κs = (omega arith, errors-small (c .before .correct .ensures))
+corrected-requires c κs = (omega arith, c .before .correct .ensures .errors-lt)
 
 slice-write-output : tie.Need-slice-write-output Inv-loop μ-loop
 slice-write-output c = omega arith

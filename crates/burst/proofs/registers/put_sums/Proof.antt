@@ -40,9 +40,9 @@ loop-less c = omega arith
 
 loop-again : tie.Need-loop-again Inv-loop μ-loop
 loop-again c =
-    let h = c .before .before .before .before .pre in
-    rw (c .before .before .before .index .ensures)
-    (put-more (c .before .before .loop .inv) (c .before .loop-test .taken) (h .0 .1) (h .0 .2) (c .generator-sum .ensures))
+    let h = c .before .before .before .before .before .pre in
+    rw (c .before .before .before .before .index .ensures)
+    (put-more (c .before .before .before .loop .inv) (c .before .before .loop-test .taken) (h .0 .1) (h .0 .2) (c .generator-sum .ensures))
 
 returns : tie.Need-returns Inv-loop μ-loop
 returns c = (c .before .loop .inv .room, put-all (c .before .loop .inv) (c .loop-test .left))

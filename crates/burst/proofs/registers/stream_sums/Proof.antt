@@ -32,25 +32,25 @@ generator-sum-requires : tie.Need-generator-sum-requires Inv-loop μ-loop
 generator-sum-requires c κs = tt
 
 mul-sums : tie.Need-mul-sums Inv-loop μ-loop
-mul-sums c = omega (arith, turn-of _ _ (c .before .before .before .before .pre) (c .before .before .loop-test .taken))
+mul-sums c = omega (arith, turn-of _ _ (c .before .before .before .before .before .pre) (c .before .before .before .loop-test .taken))
 
 array-write-sums : tie.Need-array-write-sums Inv-loop μ-loop
-array-write-sums c = omega (arith, turn-of _ _ (c .before .before .before .before .pre) (c .before .before .loop-test .taken))
+array-write-sums c = omega (arith, turn-of _ _ (c .before .before .before .before .before .pre) (c .before .before .before .loop-test .taken))
 
 add-x : tie.Need-add-x Inv-loop μ-loop
-add-x c = omega (arith, turn-of _ _ (c .before .before .before .before .pre) (c .before .before .loop-test .taken))
+add-x c = omega (arith, turn-of _ _ (c .before .before .before .before .before .pre) (c .before .before .before .loop-test .taken))
 
 loop-less : tie.Need-loop-less Inv-loop μ-loop
-loop-less c = omega (arith, turn-of _ _ (c .before .before .before .before .pre) (c .before .before .loop-test .taken))
+loop-less c = omega (arith, turn-of _ _ (c .before .before .before .before .before .pre) (c .before .before .before .loop-test .taken))
 
 loop-again : tie.Need-loop-again Inv-loop μ-loop
 loop-again c =
-    let a = c .before .before .before .before .args in
-    let l = c .before .before .before .loop in
-    let t = turn-of _ _ (c .before .before .before .before .pre) (c .before .before .loop-test .taken) in (
+    let a = c .before .before .before .before .before .args in
+    let l = c .before .before .before .before .loop in
+    let t = turn-of _ _ (c .before .before .before .before .before .pre) (c .before .before .before .loop-test .taken) in (
       omega arith,
-      length-set (l .sums) (c .before .index .result) (c .generator-sum .result) ∙ l .inv .1,
-      rw (c .before .index .ensures) (stream-more (a .generators .now) (a .k) (a .j) (l .sums) (l .x) (l .inv .2) (omega arith) (c .generator-sum .ensures)),
+      length-set (l .sums) (c .before .before .index .result) (c .generator-sum .result) ∙ l .inv .1,
+      rw (c .before .before .index .ensures) (stream-more (a .generators .now) (a .k) (a .j) (l .sums) (l .x) (l .inv .2) (omega arith) (c .generator-sum .ensures)),
     )
 
 returns : tie.Need-returns Inv-loop μ-loop

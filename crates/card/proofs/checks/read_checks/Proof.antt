@@ -4,6 +4,7 @@ use mathlib.Core.Path.{ap, _∙_}
 use native.Mathlib.Omega.{arith}
 use lib.ListN.{replicate}
 use lib.Pow.{pow-pos}
+use Rattle.code.specs.Limits.{checkWords}
 use Rattle.orthogonal.specs.Judgements.{judgementNumber}
 use Rattle.orthogonal.proofs.Failures.{failure-least}
 use Rattle.card.specs.Reading.{mapRead, readStreams}
@@ -19,21 +20,21 @@ use Rattle.card.proofs.checks.read_checks.Tie as tie
 
 abbrev Inv-loop2 : tie.InvT-loop2
 Inv-loop2 bytes start sizes generators counts checks₀ k p verdict₀ at₀ i count touched q place map rest₀ masks₀ j₀ q-end checks verdict at rest masks j =
-    AtMasks bytes (codeBy sizes generators) (mapRead (tablesWith 0 (replicate 4 0) (replicate 512 0)) (readStreams bytes (codeBy sizes generators) (sizes .k) 0 start)) i q-end counts q place touched verdict checks masks rest at j
+    AtMasks bytes (codeBy sizes generators) (mapRead (tablesWith 0 (replicate 4 0) (replicate checkWords 0)) (readStreams bytes (codeBy sizes generators) (sizes .k) 0 start)) i q-end counts q place touched verdict checks masks rest at j
 
 abbrev μ-loop2 : tie.MeasureT-loop2
 μ-loop2 bytes start sizes generators counts checks₀ k p verdict₀ at₀ i count touched q place map rest₀ masks₀ j₀ q-end checks verdict at rest masks j = sizes .p - j
 
 abbrev Inv-loop : tie.InvT-loop
 Inv-loop bytes start sizes generators counts checks₀ k p verdict₀ at₀ i count touched₀ q₀ q-end checks verdict at touched q =
-    AtChecks bytes (codeBy sizes generators) (mapRead (tablesWith 0 (replicate 4 0) (replicate 512 0)) (readStreams bytes (codeBy sizes generators) (sizes .k) 0 start)) i q-end counts verdict checks touched at q
+    AtChecks bytes (codeBy sizes generators) (mapRead (tablesWith 0 (replicate 4 0) (replicate checkWords 0)) (readStreams bytes (codeBy sizes generators) (sizes .k) 0 start)) i q-end counts verdict checks touched at q
 
 abbrev μ-loop : tie.MeasureT-loop
 μ-loop bytes start sizes generators counts checks₀ k p verdict₀ at₀ i count touched₀ q₀ q-end checks verdict at touched q = q-end - q
 
 abbrev Inv-card : tie.InvT-card
 Inv-card bytes start sizes generators counts₀ checks₀ k p verdict₀ at₀ i₀ counts checks verdict at i =
-    AtStreams bytes (codeBy sizes generators) (mapRead (tablesWith 0 (replicate 4 0) (replicate 512 0)) (readStreams bytes (codeBy sizes generators) (sizes .k) 0 start)) verdict counts checks at i
+    AtStreams bytes (codeBy sizes generators) (mapRead (tablesWith 0 (replicate 4 0) (replicate checkWords 0)) (readStreams bytes (codeBy sizes generators) (sizes .k) 0 start)) verdict counts checks at i
 
 abbrev μ-card : tie.MeasureT-card
 μ-card bytes start sizes generators counts₀ checks₀ k p verdict₀ at₀ i₀ counts checks verdict at i = sizes .k - i
@@ -43,6 +44,9 @@ card-holds c =
     let a = c .before .args in
     streams-begin _ (codeBy (a .sizes) (a .generators .now)) _ (record { k-most = omega arith; n-most = omega arith; p-most = omega arith; m-most = omega arith }) (omega arith)
     (c .before .pre .1 .0) (c .before .pre .1 .1)
+
+cast-byte-field : tie.Need-cast-byte-field Inv-loop2 μ-loop2 Inv-loop μ-loop Inv-card μ-card
+cast-byte-field c = omega arith
 
 byte-field-requires :
     tie.Need-byte-field-requires Inv-loop2 μ-loop2 Inv-loop μ-loop Inv-card μ-card
@@ -58,9 +62,6 @@ enum-told c = search needs
 verdict-of-requires :
     tie.Need-verdict-of-requires Inv-loop2 μ-loop2 Inv-loop μ-loop Inv-card μ-card
 verdict-of-requires c κs = search needs
-
-cast-counts : tie.Need-cast-counts Inv-loop2 μ-loop2 Inv-loop μ-loop Inv-card μ-card
-cast-counts c = omega arith
 
 mul-counts : tie.Need-mul-counts Inv-loop2 μ-loop2 Inv-loop μ-loop Inv-card μ-card
 mul-counts c = omega arith
@@ -79,8 +80,8 @@ loop-holds c =
     checks-begin (c .before .before .before .before .before .card .inv) (c .before .before .before .before .card-test .taken)
     (has-value (c .before .before .before .byte-field .ensures) (c .before .count-read .given .1))
 
-cast-byte-field : tie.Need-cast-byte-field Inv-loop2 μ-loop2 Inv-loop μ-loop Inv-card μ-card
-cast-byte-field c = omega arith
+cast-byte-field-2 : tie.Need-cast-byte-field-2 Inv-loop2 μ-loop2 Inv-loop μ-loop Inv-card μ-card
+cast-byte-field-2 c = omega arith
 
 shl-byte-field : tie.Need-shl-byte-field Inv-loop2 μ-loop2 Inv-loop μ-loop Inv-card μ-card
 shl-byte-field c = omega arith
@@ -257,17 +258,17 @@ read-checks-spec =
     Inv-card
     μ-card
     card-holds
+    cast-byte-field
     byte-field-requires
     enum-known-count-read
     enum-told
     verdict-of-requires
-    cast-counts
     mul-counts
     element-write-counts
     add-at
     cast-q-end
     loop-holds
-    cast-byte-field
+    cast-byte-field-2
     shl-byte-field
     sub-byte-field
     byte-field-requires-2

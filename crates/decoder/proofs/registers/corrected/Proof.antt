@@ -7,7 +7,7 @@ use lib.Pow.{pow-mono}
 use Rattle.bits.specs.Sums.{sumBelow}
 use Rattle.bits.specs.Digits.{bit, fromDigits}
 use Rattle.bits.proofs.Words.{placed-lt, placed-fits, placed-more}
-use Rattle.decoder.specs.Registers.{correctedDigit, correctedBy}
+use Rattle.decoder.specs.Held.{correctedDigit, correctedBy}
 use Rattle.decoder.proofs.registers.corrected.Statement.{statement}
 use Rattle.decoder.proofs.registers.corrected.Tie as tie
 

@@ -6,15 +6,15 @@ use lib.ListN.{getD}
 use lib.Count.{ones, ones-le}
 use Rattle.bits.specs.Sums.{sumBelow}
 use Rattle.bits.proofs.Sums.{sum-step, sum-end}
-use Rattle.decoder.specs.Registers.{onesBy}
+use Rattle.decoder.specs.Held.{onesBy}
 use Rattle.decoder.proofs.registers.ones.Statement.{statement}
 use Rattle.decoder.proofs.registers.ones.Tie as tie
 
 abbrev Inv-loop : tie.InvT-loop
-Inv-loop held p sum₀ j₀ sum j = (j ≤ p) × (sum ≤ 32 * j) × (sum ≡ sumBelow j (λ b. ones (getD held b 0)))
+Inv-loop syndromes p sum₀ j₀ sum j = (j ≤ p) × (sum ≤ 32 * j) × (sum ≡ sumBelow j (λ b. ones (getD syndromes b 0)))
 
 abbrev μ-loop : tie.MeasureT-loop
-μ-loop held p sum₀ j₀ sum j = p - j
+μ-loop syndromes p sum₀ j₀ sum j = p - j
 
 loop-holds : tie.Need-loop-holds Inv-loop μ-loop
 unfolding sumBelow
@@ -38,7 +38,7 @@ loop-again c =
     let a = c .before .before .before .before .args in (
       omega arith,
       omega (arith, ones-le 32 (c .word .result) (omega arith)),
-      sum-step (l .j) (λ b. ones (getD (a .held .now) b 0)) (l .inv .2) (ap ones (c .word .ensures)),
+      sum-step (l .j) (λ b. ones (getD (a .syndromes .now) b 0)) (l .inv .2) (ap ones (c .word .ensures)),
     )
 
 returns : tie.Need-returns Inv-loop μ-loop
@@ -46,7 +46,7 @@ unfolding onesBy
 returns c =
     let a = c .before .before .args in
     let l = c .before .loop in
-    sum-end (l .j) (a .p) (λ b. ones (getD (a .held .now) b 0)) (l .inv .0) (c .loop-test .left) (l .inv .2)
+    sum-end (l .j) (a .p) (λ b. ones (getD (a .syndromes .now) b 0)) (l .inv .0) (c .loop-test .left) (l .inv .2)
 
 pub ones-spec : {M : Type 1} → statement M
 ones-spec =

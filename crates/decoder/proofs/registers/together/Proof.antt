@@ -8,10 +8,10 @@ use Rattle.decoder.proofs.registers.together.Statement.{statement}
 use Rattle.decoder.proofs.registers.together.Tie as tie
 
 abbrev Inv-loop : tie.InvT-loop
-Inv-loop held p all₀ j₀ all j = (j ≤ p) × (all ≡ 0 → (b : ℕ) → b < j → getD held b 0 ≡ 0)
+Inv-loop syndromes p all₀ j₀ all j = (j ≤ p) × (all ≡ 0 → (b : ℕ) → b < j → getD syndromes b 0 ≡ 0)
 
 abbrev μ-loop : tie.MeasureT-loop
-μ-loop held p all₀ j₀ all j = p - j
+μ-loop syndromes p all₀ j₀ all j = p - j
 
 loop-holds : tie.Need-loop-holds Inv-loop μ-loop
 loop-holds c = (omega arith, λ e b l. absurd (omega arith))
@@ -27,9 +27,9 @@ loop-less c = omega arith
 
 loop-again : tie.Need-loop-again Inv-loop μ-loop
 loop-again c =
-    let l = c .before .before .before .loop in
+    let l = c .before .before .loop in
     let a = c .before .before .before .before .args in
-    (omega arith, none-more (λ b. getD (a .held .now) b 0) (l .j) (l .all) (c .word .ensures) (l .inv .1))
+    (omega arith, none-more (λ b. getD (a .syndromes .now) b 0) (l .j) (l .all) (c .word .ensures) (l .inv .1))
 
 returns : tie.Need-returns Inv-loop μ-loop
 returns c e j l = c .before .loop .inv .1 e j (omega arith)

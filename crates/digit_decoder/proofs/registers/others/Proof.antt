@@ -9,7 +9,7 @@ use Rattle.bits.specs.Sums.{upTo}
 use Rattle.bits.proofs.Lists.{part-step, part-end}
 use Rattle.bits.proofs.Words.{mask-times-lt}
 use Rattle.code.specs.Registers.{generatorMask}
-use Rattle.digit_decoder.specs.Registers.{othersBy}
+use Rattle.digit_decoder.specs.Held.{othersBy}
 use Rattle.digit_decoder.proofs.registers.others.Statement.{statement}
 use Rattle.digit_decoder.proofs.registers.others.Tie as tie
 
@@ -31,7 +31,7 @@ generator-requires : tie.Need-generator-requires Inv-loop μ-loop
 generator-requires c κs = tt
 
 mul-next : tie.Need-mul-next Inv-loop μ-loop
-mul-next c = record { fits = mask-times-lt 32 (c .generator .result) (c .before .before .before .before .before .args .own) (omega arith) (omega arith) }
+mul-next c = record { fits = mask-times-lt 32 (c .generator .result) (c .before .before .before .before .before .before .args .own) (omega arith) (omega arith) }
 
 mul-next-2 : tie.Need-mul-next-2 Inv-loop μ-loop
 mul-next-2 c = omega arith
@@ -47,8 +47,8 @@ loop-less c = omega arith
 
 loop-again : tie.Need-loop-again Inv-loop μ-loop
 loop-again c =
-    let l = c .before .before .before .before .loop in
-    let a = c .before .before .before .before .before .args in (
+    let l = c .before .before .before .loop in
+    let a = c .before .before .before .before .before .before .args in (
       omega arith,
       part-step (λ b. bitXor (getD (a .sums .now) b 0) (generatorMask (a .generators .now) (a .i) b * a .own)) (replicate 8 0) (l .j) (l .next) _ (omega arith) (l .inv .1)
           (ap₂ bitXor (c .before .word .ensures) (ap (λ (m : ℕ). m * a .own) (c .generator .ensures))),
@@ -57,7 +57,7 @@ loop-again c =
 returns : tie.Need-returns Inv-loop μ-loop
 unfolding othersBy
 returns c =
-    let a = c .before .before .args in
+    let a = c .before .before .before .before .args in
     c .before .loop .inv .1
     ∙ part-end (λ b. bitXor (getD (a .sums .now) b 0) (generatorMask (a .generators .now) (a .i) b * a .own)) (replicate 8 0) (c .before .loop .inv .0) (c .loop-test .left)
 

@@ -8,7 +8,7 @@ use lib.Bits.{bitXor}
 use Rattle.bits.specs.Sums.{xorBelow}
 use Rattle.bits.proofs.Words.{xor-more}
 use Rattle.code.specs.Registers.{generatorMask}
-use Rattle.digit_decoder.specs.Registers.{shareBy, sumBy}
+use Rattle.digit_decoder.specs.Held.{shareBy, sumBy}
 use Rattle.digit_decoder.proofs.registers.sum.Statement.{statement}
 use Rattle.digit_decoder.proofs.registers.sum.Tie as tie
 
@@ -43,11 +43,11 @@ loop-less c = omega arith
 
 loop-again : tie.Need-loop-again Inv-loop μ-loop
 loop-again c =
-    let l = c .before .before .before .before .before .before .before .loop in
-    let a = c .before .before .before .before .before .before .before .before .args in (
+    let l = c .before .before .before .before .before .loop in
+    let a = c .before .before .before .before .before .before .before .before .before .args in (
       omega arith,
       ap₂ bitXor (l .inv .1)
-          (cc (c .share .ensures, c .before .word2 .ensures, c .before .before .before .word .ensures, c .before .before .before .before .before .generator .ensures))
+          (cc (c .share .ensures, c .before .word2 .ensures, c .before .before .word .ensures, c .before .before .before .generator .ensures))
           ∙ sym (xor-more (l .s) (λ b. shareBy (generatorMask (a .generators .now) b (a .j)) (getD (a .received .now) b 0) (getD (a .decided .now) b 0))),
     )
 
@@ -60,12 +60,12 @@ word-requires-3 c κs = tt
 returns : tie.Need-returns Inv-loop μ-loop
 unfolding sumBy
 returns c =
-    let a = c .before .before .before .before .args in
-    let l = c .before .before .before .loop in
+    let a = c .before .before .before .before .before .before .args in
+    let l = c .before .before .loop in
     ap₂ bitXor (c .word3 .ensures)
     (l .inv .1
     ∙ ap (λ (n : ℕ). xorBelow n (λ b. shareBy (generatorMask (a .generators .now) b (a .j)) (getD (a .received .now) b 0) (getD (a .decided .now) b 0)))
-    (le-antisymm (l .inv .0) (c .before .before .loop-test .left)))
+    (le-antisymm (l .inv .0) (c .before .loop-test .left)))
 
 pub sum-spec : {M : Type 1} → statement M
 sum-spec =

@@ -6,7 +6,7 @@ use native.Mathlib.Omega.{arith}
 use lib.ListN.{drop, replicate}
 use Rattle.bits.specs.Sums.{upTo}
 use Rattle.bits.proofs.Lists.{part-step, part-end}
-use Rattle.digit_decoder.specs.Registers.{sumBy, sumsBy}
+use Rattle.digit_decoder.specs.Held.{sumBy, sumsBy}
 use Rattle.digit_decoder.proofs.registers.sums.Statement.{statement}
 use Rattle.digit_decoder.proofs.registers.sums.Tie as tie
 
@@ -38,7 +38,7 @@ loop-less c = omega arith
 loop-again : tie.Need-loop-again Inv-loop μ-loop
 loop-again c =
     let l = c .before .before .loop in
-    let a = c .before .before .before .args in (
+    let a = c .before .before .before .before .before .before .args in (
       omega arith,
       part-step (sumBy (a .generators .now) (a .received .now) (a .decided .now) (a .k)) (replicate 8 0) (l .j) (l .next) _ (omega arith) (l .inv .1) (c .sum .ensures),
     )
@@ -46,7 +46,7 @@ loop-again c =
 returns : tie.Need-returns Inv-loop μ-loop
 unfolding sumsBy
 returns c =
-    let a = c .before .before .args in
+    let a = c .before .before .before .before .before .args in
     c .before .loop .inv .1
     ∙ part-end (sumBy (a .generators .now) (a .received .now) (a .decided .now) (a .k)) (replicate 8 0) (c .before .loop .inv .0) (c .loop-test .left)
 

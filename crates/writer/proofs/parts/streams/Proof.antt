@@ -1,9 +1,10 @@
 -- The streams passed stand in the output from `at` on.
-use Prim.Native.Nat.{ℕ, _-_, _≤_}
-use mathlib.Core.Path.{ap}
+use Prim.Native.Nat.{ℕ, _-_, _≤_, min}
+use mathlib.Core.Path.{ap, _∙_}
 use native.Mathlib.Nat.{le-antisymm}
 use native.Mathlib.Omega.{arith}
 use Rattle.bits.specs.Sums.{upTo}
+use Rattle.code.specs.Limits.{mostChecks}
 use Rattle.card.specs.Layout.{layoutStreams}
 use Rattle.outcomes.specs.Wrote.{Wrote}
 use Rattle.outcomes.proofs.Writing.{wrote-nothing, wrote-as, wrote-both, wrote-length}
@@ -23,19 +24,22 @@ loop-holds : tie.Need-loop-holds Inv-loop μ-loop
 unfolding upTo streamsOf layoutStreams
 loop-holds c = (omega arith, wrote-nothing (c .before .args .output .now) (c .before .args .at))
 
-mul-at-most : tie.Need-mul-at-most Inv-loop μ-loop
-mul-at-most c = omega arith
+mul-index : tie.Need-mul-index Inv-loop μ-loop
+mul-index c = omega arith
 
-element-copy-out-at-most : tie.Need-element-copy-out-at-most Inv-loop μ-loop
-element-copy-out-at-most c = omega arith
+element-copy-out-index : tie.Need-element-copy-out-index Inv-loop μ-loop
+element-copy-out-index c = omega arith
+
+index-requires : tie.Need-index-requires Inv-loop μ-loop
+index-requires c κs = tt
 
 at-most-requires : tie.Need-at-most-requires Inv-loop μ-loop
 at-most-requires c κs = tt
 
 stream-requires : tie.Need-stream-requires Inv-loop μ-loop
 stream-requires c κs =
-    let l = c .before .before .before .before .loop in
-    let a = c .before .before .before .before .before .before .args in (
+    let l = c .before .before .before .before .before .loop in
+    let a = c .before .before .before .before .before .before .before .args in (
       omega arith,
       omega (arith, c .at-most .ensures),
       omega arith,
@@ -52,10 +56,10 @@ loop-again : tie.Need-loop-again Inv-loop μ-loop
 loop-again c =
     let laid = c .before .before in
     let held = laid .before in
-    let l = held .before .before .before .before .loop in
-    let a = held .before .before .before .before .before .before .args in (
+    let l = held .before .before .before .before .before .loop in
+    let a = held .before .before .before .before .before .before .before .args in (
       omega arith,
-      wrote-as (streams-next (a .counts .now) (a .checks .now) (a .p) (l .i) (held .at-most .ensures))
+      wrote-as (streams-next (a .counts .now) (a .checks .now) (a .p) (l .i) (held .at-most .ensures ∙ ap (λ n. min n mostChecks) (held .before .index .ensures)))
           (wrote-both _ _ (l .inv .1) (laid .stream .ensures)),
     )
 
@@ -75,8 +79,9 @@ streams-spec =
     Inv-loop
     μ-loop
     loop-holds
-    mul-at-most
-    element-copy-out-at-most
+    mul-index
+    element-copy-out-index
+    index-requires
     at-most-requires
     stream-requires
     add-i

@@ -1,2 +1,0 @@
-pub mod ErasedDigits
-pub mod Voters
