@@ -13,7 +13,7 @@ use Rattle.code.specs.Code.{mostFrames}
 use Rattle.code.specs.Registers.{generatorMask, generatorSum, shiftIn, historyBy, parityBy, digitBy, frameBy, syndromesBy, feedbackBy, withDigits, withWords, movedOn}
 use Rattle.card.specs.Bench.{cardP}
 use Rattle.card.specs.Outcome.{CardOutcome}
-use Rattle.vote.specs.ErasedDigits.{anyWith, erasedWith, erasedMoved}
+use Rattle.code.specs.ErasedDigits.{anyWith, erasedWith, erasedMoved}
 use Rattle.vote.specs.Voters.{allVoting, votersBy, decideMarked}
 use Rattle.vote.specs.Voting.{checkBy, onesBy, ifWhole, majorityBy, decideBy}
 use Rattle.receiving.specs.Calls.{replyOf, answers, handedBy, handedIn}

@@ -4,6 +4,7 @@ pub mod Sent
 pub mod Registers
 pub mod GeneratorSums
 pub mod StreamRegisters
+pub mod ErasedDigits
 pub mod Sending
 pub mod Touches
 pub mod Besides

@@ -4,5 +4,6 @@ pub mod Checks
 pub mod Judging
 pub mod Guarantees
 pub mod Registers
+pub mod ErasedDigits
 pub mod Sizes
 pub mod Bench

@@ -1,5 +1,7 @@
 // The code and the checks that a card names, and the code by registers: bit a of history register i is information digit i of the frame a before
 // the last one taken.
+pub mod erased;
+
 ghost use mathlib.Core.Path.{_≡_};
 ghost use Prim.Native.Nat.{_<_};
 ghost use Rattle.code.specs.Registers.{generatorMask, generatorSum, shiftIn, historyBy, parityBy, frameBy, syndromesBy, feedbackBy, withDigits, withWords, movedOn};

@@ -24,7 +24,7 @@ use Rattle.receiving.proofs.Example as example
 use Rattle.receiving.proofs.Example.{Takes, TakesFaint}
 use Rattle.orthogonal.specs.Pass.{holds}
 use Rattle.vote.specs.Voters.{allVoting, votingBy, streamVotersBy, votersBy, decideMarked}
-use Rattle.vote.specs.ErasedDigits.{anyWith, erasedWith, erasedMoved}
+use Rattle.code.specs.ErasedDigits.{anyWith, erasedWith, erasedMoved}
 use Rattle.decoder.specs.Held.{withSyndromes, fedBack, heldWith, heldAfter, correctedDigit, correctedBy}
 use Rattle.decoder.specs.Receive.{errorsOf, withFrame, handingOf, takenOf, firstCircuit}
 use Rattle.decoder.specs.Claims.{Claims}

@@ -29,7 +29,7 @@ use Rattle.receiving.proofs.Follow.{Follows}
 use Rattle.receiving.proofs.Turns.{InTurn, in-turn}
 use Rattle.receiving.proofs.ByRule.{from-start, follows-rule}
 use Rattle.vote.specs.Voters.{decideMarked}
-use Rattle.vote.proofs.ErasedDigits.{ErasedAt, erased-start, erased-next, erased-moved}
+use Rattle.code.proofs.ErasedDigits.{ErasedAt, erased-start, erased-next, erased-moved}
 use Rattle.decoder.specs.Held.{nothingHeld, withSyndromes, heldWith, errorsIn, fedBack, heldAfter, correctedBy, onesBy}
 use Rattle.decoder.specs.Receive.{withFrame, errorsOf, handingOf, takenOf, firstCircuit, linkFigureOf}
 use Rattle.decoder.specs.Claims.{Claims}

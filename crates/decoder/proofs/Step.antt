@@ -27,7 +27,7 @@ use Rattle.majority.proofs.Streams.{decided-length, decided-at}
 use Rattle.majority.proofs.Feedback.{syndrome-lt, cleared-new, cleared-fed}
 use Rattle.receiving.specs.Receive.{placeOf}
 use Rattle.vote.specs.Voters.{votersBy, decideVoters}
-use Rattle.vote.proofs.ErasedDigits.{ErasedAt}
+use Rattle.code.proofs.ErasedDigits.{ErasedAt}
 use Rattle.vote.proofs.Voting.{decide-is}
 use Rattle.vote.proofs.WhoVotes.{voters-are, counts-are}
 use Rattle.decoder.specs.Held.{correctedDigit, correctedBy}

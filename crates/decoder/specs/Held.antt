@@ -15,7 +15,7 @@ use Rattle.code.specs.Registers.{historyBy, syndromesBy, feedbackBy, withDigits
 use Rattle.code.specs.declared.Sizes.{Sizes}
 use Rattle.receiving.specs.Answers.{Given, waiting, frame, refused, answerOf}
 use Rattle.receiving.specs.Readings.{Yield, yields, refuses}
-use Rattle.vote.specs.ErasedDigits.{anyWith, erasedWith, erasedMoved}
+use Rattle.code.specs.ErasedDigits.{anyWith, erasedWith, erasedMoved}
 use Rattle.vote.specs.Voters.{decideMarked}
 use Rattle.decoder.specs.declared.Held.{Held}
 use Rattle.decoder.specs.declared.Settled.{Settled}

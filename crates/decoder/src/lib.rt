@@ -155,7 +155,7 @@ fn settle<'a>(
                 place,
                 digits as u32,
             );
-            let any = vote::erased::put(&mut erased, held.any, marks as u32, place);
+            let any = code::erased::put(&mut erased, held.any, marks as u32, place);
             if (received as usize) < sizes.m {
                 return Settled {
                     answer: Answer::Waiting,
@@ -171,7 +171,7 @@ fn settle<'a>(
             let wrong = errors(generators, counts, checks, &syndromes, &erased, any, sizes);
             let frame = registers::corrected(&history, wrong, sizes.k, sizes.m);
             feed_back(&mut syndromes, generators, sizes, wrong);
-            let later = vote::erased::move_on(&mut erased, any);
+            let later = code::erased::move_on(&mut erased, any);
             Settled {
                 answer: Answer::Frame(frame),
                 held: Held {

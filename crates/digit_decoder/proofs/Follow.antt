@@ -24,7 +24,7 @@ use Rattle.receiving.specs.Calls.{Call, takenFrames, takenErased, answers, answ
 use Rattle.receiving.proofs.Follow.{Follows, agree}
 use Rattle.receiving.proofs.Turns.{InTurn, in-turn}
 use Rattle.receiving.proofs.ByRule.{follows-rule}
-use Rattle.vote.proofs.ErasedDigits.{ErasedAt, erased-start, erased-next, erased-moved}
+use Rattle.code.proofs.ErasedDigits.{ErasedAt, erased-start, erased-next, erased-moved}
 use Rattle.vote.proofs.WhoVotes.{voters-are}
 use Rattle.decoder.specs.Receive.{firstCircuit}
 use Rattle.decoder.proofs.Follow as first

@@ -17,7 +17,7 @@ use Rattle.code.specs.Registers.{generatorMask, withDigits, movedOn}
 use Rattle.code.specs.declared.Sizes.{Sizes}
 use Rattle.receiving.specs.Answers.{Given, waiting, frame, refused, answerOf}
 use Rattle.receiving.specs.Readings.{Yield, yields, refuses}
-use Rattle.vote.specs.ErasedDigits.{anyWith, erasedWith, erasedMoved}
+use Rattle.code.specs.ErasedDigits.{anyWith, erasedWith, erasedMoved}
 use Rattle.vote.specs.Voters.{votersBy}
 use Rattle.vote.specs.Voting.{streamOnesBy}
 use Rattle.digit_decoder.specs.declared.Held.{Held}

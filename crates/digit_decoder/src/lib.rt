@@ -81,7 +81,7 @@ fn put_in(held: Held, place: usize, frame: u32, marks: u32) -> Held
     let decided = held.decided;
     let mut erased = held.erased;
     code::put_digits(&mut digits, frame, place);
-    let any = vote::erased::put(&mut erased, held.any, marks, place);
+    let any = code::erased::put(&mut erased, held.any, marks, place);
     Held {
         digits,
         decided,
@@ -133,7 +133,7 @@ fn moved_on(held: Held, frame: u32) -> Held
     let mut erased = held.erased;
     registers::put_decided(&mut decided, frame);
     code::move_on(&mut digits);
-    let any = vote::erased::move_on(&mut erased, held.any);
+    let any = code::erased::move_on(&mut erased, held.any);
     Held {
         digits,
         decided,

@@ -32,7 +32,7 @@ use Rattle.majority.proofs.Plain.{every-votes}
 use Rattle.vote.specs.Voting.{checkBy, allBy, onesBy, majorityBy, decideBy, votesBy, decideByAll}
 use Rattle.vote.specs.Voters.{allVoting, votingBy, streamVotersBy, votersBy, votersOf, decideVoters}
 use Rattle.vote.proofs.Voting.{check-lt, whole, ones-count, errorOf}
-use Rattle.vote.proofs.ErasedDigits.{ErasedAt, none-erased, marks-held}
+use Rattle.code.proofs.ErasedDigits.{ErasedAt, none-erased, marks-held}
 
 -- ---- one check, by what it touches
 module _ (generators checks erased : List ℕ) (k p i q : ℕ) where

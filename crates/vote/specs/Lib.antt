@@ -1,3 +1,2 @@
 pub mod Voting
 pub mod Voters
-pub mod ErasedDigits

@@ -2,7 +2,6 @@
 // (`voters`); digit q of the other, check q votes and is 1. In the first circuit and the burst bit a of register j is the syndrome of parity stream j, the
 // errors decided before taken out, a frames after the frame that is decided; in the second it is a sum of digits. It decides as the rule on whole
 // streams (`majority`) does.
-pub mod erased;
 pub mod voters;
 
 ghost use mathlib.Core.Path.{_≡_};

@@ -4,10 +4,10 @@ use borrow.Author.Needs.{needs}
 use borrow.Author.Tests.{eq-eqb, ne-eqb}
 use lib.Bits.{bitXor}
 use Rattle.bits.specs.Digits.{shiftUp}
-use Rattle.vote.specs.ErasedDigits.{anyWith, erasedWith}
+use Rattle.code.specs.ErasedDigits.{anyWith, erasedWith}
 use Rattle.code.proofs.StreamRegisters.{digits-length}
-use Rattle.vote.proofs.erased.put.Statement.{statement}
-use Rattle.vote.proofs.erased.put.Tie as tie
+use Rattle.code.proofs.erased.put.Statement.{statement}
+use Rattle.code.proofs.erased.put.Tie as tie
 
 marked-requires : tie.Need-marked-requires
 marked-requires c κs = search needs

@@ -10,11 +10,10 @@ use Rattle.bits.specs.Digits.{bit}
 use Rattle.bits.proofs.Cases.{le-or-lt, same-or-not}
 use Rattle.bits.proofs.Digits.{bit-of-zero}
 use Rattle.bits.proofs.Held.{held, held-in, held-out, put-in, moved}
 use Rattle.code.specs.Code.{digit}
 use Rattle.code.specs.declared.Card.{Card}
 use Rattle.code.proofs.StreamRegisters.{DigitsAt, digits-length, moved-length, digits-start, digits-next, digits-moved}
-use Rattle.majority.specs.Plain.{NoneErased}
-use Rattle.vote.specs.ErasedDigits.{anyWith, erasedWith, erasedMoved}
+use Rattle.code.specs.ErasedDigits.{anyWith, erasedWith, erasedMoved}
 
 -- the registers of n streams hold which digits of times u to t - 1 are erased, and `any` whether there is one at each time
 pub record ErasedAt (n : ℕ) (erased : List ℕ) (u t : ℕ) (y : List ℕ) (any : ℕ) : Type 0 where
@@ -105,7 +104,7 @@ module _ (n : ℕ) (erased : List ℕ) where
 -- with the frame of time u + m, the last that a decision at u looks at
 module _ (c : Card) (erased : List ℕ) (u : ℕ) (y : List ℕ) (any : ℕ) (E : ErasedAt (c .k + c .p) erased u (suc (u + c .m)) y any) where
   -- where `any` is 0, nothing is erased that the decision looks at
-  pub none-erased : any ≡ 0 → NoneErased c erased u
+  pub none-erased : any ≡ 0 → (b s : ℕ) → b ≤ c .m → s < c .k + c .p → digit erased s (u + b) ≡ 0
   none-erased z b s lb ls = digit-none (c .k + c .p) erased u (suc (u + c .m)) any (E .any-is) z s b (omega arith)
 
   -- else the registers hold what is

@@ -2,10 +2,10 @@ use mathlib.Core.Path.{refl}
 use native.Mathlib.Omega.{arith}
 use borrow.Author.Needs.{needs}
 use borrow.Author.Tests.{eq-eqb, ne-eqb}
-use Rattle.vote.specs.ErasedDigits.{erasedMoved}
+use Rattle.code.specs.ErasedDigits.{erasedMoved}
 use Rattle.code.proofs.StreamRegisters.{moved-length}
-use Rattle.vote.proofs.erased.move_on.Statement.{statement}
-use Rattle.vote.proofs.erased.move_on.Tie as tie
+use Rattle.code.proofs.erased.move_on.Statement.{statement}
+use Rattle.code.proofs.erased.move_on.Tie as tie
 
 returns : tie.Need-returns
 unfolding erasedMoved

@@ -3,7 +3,7 @@
 // receiving sessions keep this beside their other registers.
 ghost use mathlib.Core.Path.{_≡_};
 ghost use Prim.Native.Nat.{_/_, min};
-ghost use Rattle.vote.specs.ErasedDigits.{anyWith, erasedWith, erasedMoved};
+ghost use Rattle.code.specs.ErasedDigits.{anyWith, erasedWith, erasedMoved};
 
 // 1 if the frame has a mark.
 fn marked(marks: u32) -> u32
@@ -20,7 +20,7 @@ pub fn put(registers: &mut [u32], any: u32, marks: u32, place: usize) -> u32
     if next == 0 {
         return 0;
     }
-    code::put_digits(registers, marks, place);
+    crate::put_digits(registers, marks, place);
     next
 }
 
@@ -31,6 +31,6 @@ pub fn move_on(registers: &mut [u32], any: u32) -> u32
     if any == 0 {
         return 0;
     }
-    code::move_on(registers);
+    crate::move_on(registers);
     any >> 1
 }
