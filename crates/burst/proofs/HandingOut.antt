@@ -13,7 +13,7 @@ use Rattle.majority.specs.Rule.{corrected}
 use Rattle.majority.specs.Rule as Rule
 use Rattle.majority.specs.Plain.{decided, decoded}
 use Rattle.burst.specs.Registers.{Registers, registers, HasSums, TakenIn, takenOut, Corrected, NoneFrom, correctedBy}
-use Rattle.burst.specs.Held.{Before, With, Tables, cardWith, Carried, Handing, HandedOut, AllHandedOut, AllHandedFrom}
+use Rattle.burst.specs.Held.{Before, With, Tables, cardWith, Carried, Handing, HandedOut, AllHandedOut}
 use Rattle.burst.proofs.Following.{taken-in}
 use Rattle.burst.proofs.Waiting.{start}
 use Rattle.burst.proofs.Deciding.{fed-back, handed-out}
@@ -67,18 +67,14 @@ module _ (tables : Tables) (frames : List ℕ) where
   hand-on s t u before mid after output output' output'' l first second g e number G output₀ same handing =
       second g e number G output₀ (same ∙ sym l) (first g e number G output₀ same handing)
 
-  -- all that a burst hands out, from registers that were ready for the frame of time m
-  pub all-from : {output output' : List ℕ} {filled after : Registers} → HandedOut tables frames 0 (length frames - tables .m) filled after output output'
-      → AllHandedFrom filled tables frames output output'
-  unfolding Rule.decoded upTo
-  all-from {output} {filled = filled} handed g e number G B =
-      let z : tables .m ≡ 0 + tables .m = omega arith in
-      handed g e number G output refl (subst (λ t. Before (cardWith number g tables) frames t filled) z B, refl) .1
-
   -- a whole burst, from registers of zeros
-  pub all-handed : (output : List ℕ) {output' : List ℕ} {filled : Registers} → Carried tables frames (tables .m) (registers (replicate 8 0) (replicate 8 0)) filled
-      → AllHandedFrom filled tables frames output output' → AllHandedOut tables frames output output'
-  all-handed output carried handed g e number G = handed g e number G (carried g e number G (start (cardWith number g tables) frames))
+  pub all-handed : {output output' : List ℕ} {filled after : Registers} → Carried tables frames (tables .m) (registers (replicate 8 0) (replicate 8 0)) filled
+      → HandedOut tables frames 0 (length frames - tables .m) filled after output output' → AllHandedOut tables frames output output'
+  unfolding Rule.decoded upTo
+  all-handed {output} {filled = filled} carried handed g e number G =
+      let z : tables .m ≡ 0 + tables .m = omega arith in
+      let ready = carried g e number G (start (cardWith number g tables) frames) in
+      handed g e number G output refl (subst (λ t. Before (cardWith number g tables) frames t filled) z ready, refl) .1
 
 -- a burst of fewer than m frames
 pub none-handed : (c : Card) (frames output : List ℕ) → length frames < c .m → output ≡ decoded c frames ++ drop (length frames - c .m) output

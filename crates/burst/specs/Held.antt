@@ -75,11 +75,6 @@ HandedOut T frames s u before after output output' =
 abbrev pub AllHandedOut : Tables → List ℕ → List ℕ → List ℕ → Type 0
 AllHandedOut T frames output output' = EveryCardWith T (λ c. output' ≡ decoded c frames ++ drop (length frames - c .m) output)
 
--- the same, if these registers were ready for the frame of time m
-abbrev pub AllHandedFrom : Registers → Tables → List ℕ → List ℕ → List ℕ → Type 0
-AllHandedFrom filled T frames output output' =
-    EveryCardWith T (λ c. Before c frames (c .m) filled → output' ≡ decoded c frames ++ drop (length frames - c .m) output)
-
 -- every tables with these counts, of one parity stream, for which this is what each frame puts into the word
 abbrev pub EveryTables : List ℕ → List ℕ → ℕ → ℕ → (Tables → Type 0) → Type 0
 EveryTables puts counts k m P = (sums checks : List ℕ) → HasPuts sums k m (2 ^ (k + 1)) puts → P (tables sums counts checks k 1 m)

@@ -4,7 +4,7 @@
 ghost use mathlib.Core.Path.{_≡_};
 ghost use mathlib.Core.List.{List, _∷_};
 ghost use mathlib.Core.Logic.{_⊎_};
-ghost use Prim.Native.Nat.{ℕ, _+_, _*_, _/_, _%_, _^_, _<_, _≤_};
+ghost use Prim.Native.Nat.{ℕ, _+_, _/_, _%_, _^_, _<_, _≤_};
 ghost use lib.Bits.{bitXor};
 ghost use lib.ListN.{length, getD, replicate};
 ghost use Rattle.code.specs.Guarantees.{Guarantees};
@@ -12,7 +12,7 @@ ghost use Rattle.vote.specs.Voting.{decideByAll};
 ghost use Rattle.burst_vote.specs.Sorted.{Sorted};
 ghost use Rattle.burst.specs.Parts.{cardFrom};
 ghost use Rattle.burst.specs.Registers.{AtLeast, AllWithin, inOne, putOf, HasPuts};
-ghost use Rattle.burst.specs.Held.{tables, Carried, HandedOut, AllHandedOut, AllHandedFrom, EveryTables, TakenNext};
+ghost use Rattle.burst.specs.Held.{tables, Carried, HandedOut, AllHandedOut, EveryTables, TakenNext};
 use crate::registers::corrected;
 use burst_vote::SEVERAL_WORDS;
 use burst_vote::decide_sorted;
@@ -169,80 +169,7 @@ fn hand_through(
     Reached { word, u }
 }
 
-// With the frame m later taken in: the errors of this one decided and fed back, and it is handed out with them corrected.
-fn hand_corrected<'a>(
-    word: u64,
-    puts: &[u64; 32],
-    least: usize,
-    counts: &'a [u32; 4],
-    alone: &'a [u32; 4],
-    several: &'a [u32; SEVERAL_WORDS],
-    left: &'a [usize; 4],
-    k: usize,
-    m: usize,
-    u: usize,
-    input: &[u8],
-    output: &mut [u8],
-) -> u64
-    requires { ⌜ (k ≤ 4) × (m ≤ 31) × (u + m < length (now input)) × (length (now input) ≤ length (now output) + m) × AllWithin (k + 1) (now input) ⌝ }
-    ensures { λ r. ⌜ EveryTables (now (puts .entry)) (now (counts .entry)) k m
-        (λ T. Sorted (T .counts) (T .checks) k (now (alone .entry)) (now (several .entry)) (now (left .entry)) → AtLeast (T .counts) k least
-        → (before : ℕ) → TakenNext (now (puts .entry)) m (now (input .entry)) u before word
-        → HandedOut T (now (input .entry)) u (u + 1) (inOne m before) (inOne m r) (now (output .entry)) (now (output .exit))) ⌝ }
-{
-    let errors = voted(syndromes(word, m), least, counts, alone, several, left, k);
-    output[u] = corrected(input[u], k, errors);
-    fed_back(word, puts, m, errors)
-}
-
-// Each frame but the last m, corrected.
-fn hand_out<'a>(
-    filled: u64,
-    puts: &[u64; 32],
-    least: usize,
-    counts: &'a [u32; 4],
-    alone: &'a [u32; 4],
-    several: &'a [u32; SEVERAL_WORDS],
-    left: &'a [usize; 4],
-    k: usize,
-    m: usize,
-    input: &[u8],
-    output: &mut [u8],
-)
-    requires { ⌜ (k ≤ 4) × (m ≤ 31) × (m ≤ length (now input)) × (length (now input) ≤ length (now output) + m) × AllWithin (k + 1) (now input) ⌝ }
-    ensures { λ r. ⌜ EveryTables (now (puts .entry)) (now (counts .entry)) k m
-        (λ T. Sorted (T .counts) (T .checks) k (now (alone .entry)) (now (several .entry)) (now (left .entry)) → AtLeast (T .counts) k least
-        → AllHandedFrom (inOne m filled) T (now (input .entry)) (now (output .entry)) (now (output .exit))) ⌝ }
-{
-    let end = input.len() - m;
-    let mut word = filled;
-    let mut u = 0;
-    while u < end {
-        let reached = hand_through(word, puts, k, m, u, input, output);
-        word = reached.word;
-        u = reached.u;
-        if u == end {
-            return;
-        }
-        word = hand_corrected(
-            word,
-            puts,
-            least,
-            counts,
-            alone,
-            several,
-            left,
-            k,
-            m,
-            u,
-            input,
-            output,
-        );
-        u += 1;
-    }
-}
-
-// A whole burst of m frames or more.
+// A whole burst of m frames or more: each but the last m is handed out, with its errors corrected and fed back once the frame m later is taken in.
 pub(crate) fn receive<'a>(
     sums: &[u32; 128],
     counts: &'a [u32; 4],
@@ -259,18 +186,26 @@ pub(crate) fn receive<'a>(
     let puts = puts(sums, k, m);
     let sorted_checks = sorted(counts, checks, k);
     let least = least_checks(counts, &sorted_checks.left, k);
-    let filled = fill(&puts, k, m, input);
-    hand_out(
-        filled,
-        &puts,
-        least,
-        counts,
-        &sorted_checks.alone,
-        &sorted_checks.several,
-        &sorted_checks.left,
-        k,
-        m,
-        input,
-        output,
-    );
+    let end = input.len() - m;
+    let mut word = fill(&puts, k, m, input);
+    let mut u = 0;
+    while u < end {
+        let reached = hand_through(word, &puts, k, m, u, input, output);
+        u = reached.u;
+        if u == end {
+            return;
+        }
+        let errors = voted(
+            syndromes(reached.word, m),
+            least,
+            counts,
+            &sorted_checks.alone,
+            &sorted_checks.several,
+            &sorted_checks.left,
+            k,
+        );
+        output[u] = corrected(input[u], k, errors);
+        word = fed_back(reached.word, &puts, m, errors);
+        u += 1;
+    }
 }

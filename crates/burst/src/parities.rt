@@ -4,7 +4,7 @@ ghost use mathlib.Core.List.{List};
 ghost use Prim.Native.Nat.{ℕ, _+_, _≤_};
 ghost use lib.ListN.{length};
 ghost use Rattle.burst.specs.Registers.{registers, NoneFrom};
-ghost use Rattle.burst.specs.Held.{tables, Carried, AllHandedOut, AllHandedFrom};
+ghost use Rattle.burst.specs.Held.{tables, Carried, AllHandedOut};
 use crate::registers::correct;
 use crate::registers::corrected;
 use crate::registers::take_in;
@@ -33,36 +33,7 @@ fn fill(
     }
 }
 
-// Each frame but the last m, corrected.
-fn hand_out<'a>(
-    syndromes: &mut [u32; 8],
-    coming: &mut [u32; 8],
-    sums: &[u32; 128],
-    counts: &'a [u32; 4],
-    checks: &'a [u32; CHECK_WORDS],
-    k: usize,
-    p: usize,
-    m: usize,
-    input: &[u8],
-    output: &mut [u8],
-)
-    requires { ⌜ (k ≤ 4) × (k + p ≤ 8) × (m ≤ 31) ⌝ }
-    requires { ⌜ (length (now syndromes) ≡ 8) × (length (now coming) ≡ 8) × NoneFrom p (now syndromes) ⌝ }
-    requires { ⌜ (m ≤ length (now input)) × (length (now input) ≤ length (now output) + m) ⌝ }
-    ensures { λ r. ⌜ AllHandedFrom (registers (now (coming .entry)) (now (syndromes .entry))) (tables (now (sums .entry)) (now (counts .entry)) (now (checks .entry)) k p m)
-        (now (input .entry)) (now (output .entry)) (now (output .exit)) ⌝ }
-{
-    let end = input.len() - m;
-    let mut u = 0;
-    while u < end {
-        let held = take_in(syndromes, coming, sums, k, p, m, input[u + m]);
-        let errors = correct(syndromes, held, sums, counts, checks, k, p);
-        output[u] = corrected(input[u], k, errors);
-        u += 1;
-    }
-}
-
-// A whole burst of m frames or more.
+// A whole burst of m frames or more: each but the last m is handed out, corrected.
 pub(crate) fn receive<'a>(
     sums: &[u32; 128],
     counts: &'a [u32; 4],
@@ -80,16 +51,12 @@ pub(crate) fn receive<'a>(
     let mut syndromes = [0u32; 8];
     let mut coming = [0u32; 8];
     fill(&mut syndromes, &mut coming, sums, k, p, m, input);
-    hand_out(
-        &mut syndromes,
-        &mut coming,
-        sums,
-        counts,
-        checks,
-        k,
-        p,
-        m,
-        input,
-        output,
-    );
+    let end = input.len() - m;
+    let mut u = 0;
+    while u < end {
+        let held = take_in(&mut syndromes, &mut coming, sums, k, p, m, input[u + m]);
+        let errors = correct(&mut syndromes, held, sums, counts, checks, k, p);
+        output[u] = corrected(input[u], k, errors);
+        u += 1;
+    }
 }
