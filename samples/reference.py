@@ -5,8 +5,8 @@ Made to be read, not to be fast. Streams are counted from 0; parity stream j is 
 """
 
 
-# The ranges of k, m and J, and that of n, which depends on k (document 01, "The code" and "Checks"); the defaults of k and n.
-RANGE_OF_K, RANGE_OF_M, RANGE_OF_J = range(1, 5), range(32), range(1, 17)
+# The ranges of k, m and J, and that of n, which depends on k (document 01, "The code" and "Checks"; for J document 02, R-13); the defaults of k and n.
+RANGE_OF_K, RANGE_OF_M, RANGE_OF_J = range(1, 5), range(32), range(1, 11)
 DEFAULT_K, DEFAULT_N = 1, 2
 
 

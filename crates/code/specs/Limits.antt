@@ -3,9 +3,9 @@
 -- Assumes nothing.
 use Prim.Native.Nat.{ℕ, _+_, _*_}
 
--- "J from 1 to 16"
+-- "J from 1 to 16", and document 02, R-13, "Make it the limit in place of 16": ten
 abbrev pub mostChecks : ℕ
-mostChecks = 16
+mostChecks = 10
 
 -- from the checks of one stream to those of the next
 abbrev pub checkStride : ℕ

@@ -12,7 +12,7 @@ pub const MOST_FRAMES: usize = 1048576;
 
 // J, the number of checks of a stream, is at most this. A check has a mask for each of eight parity streams: that many words lie between the checks of a
 // stream and those of the next, and those of all four streams take so many.
-pub const MOST_CHECKS: usize = 16;
+pub const MOST_CHECKS: usize = 10;
 
 pub const CHECK_STRIDE: usize = MOST_CHECKS * 8;
 
