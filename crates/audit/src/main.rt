@@ -1,6 +1,7 @@
 // Audits stored cards: files by name as arguments, a line to standard output for each that holds no good card, and last the count of those that do.
 ghost use Prim.Native.Nat.{_≤_};
 ghost use lib.ListN.{length};
+use libc::SEEK_CUR;
 use libc::SEEK_END;
 use libc::SEEK_SET;
 use libc::STDERR_FILENO;
@@ -48,35 +49,29 @@ fn fill(fd: i32, buffer: &mut [u8]) -> Contents
     }
 }
 
-// Whether so many bytes are all of a file that ends there. Below 0 is the end of what can't be positioned, as a pipe, and tells nothing.
-fn is_all(end: i64, length: usize) -> bool {
-    if end < 0 {
-        return true;
-    }
-    end as usize == length
-}
-
-// Reads an open file. One that has another length before or after than came of it was changed meanwhile: it is not whole. Where the buffer is full there is
-// too much, whatever is changed.
+// Reads an open file. Where it ends, before and after, has to be where the reading ended: otherwise it was changed meanwhile, and is not whole. What can't be
+// positioned, as a pipe, has -1 for all three. Where the buffer is full there is too much, whatever is changed.
 fn read_open(fd: i32, buffer: &mut [u8]) -> Contents
     ensures { λ r. ⌜ r .length ≤ length (now (buffer .exit)) ⌝ }
 {
     let before = libc::lseek(fd, 0, SEEK_END);
     libc::lseek(fd, 0, SEEK_SET);
     let read = fill(fd, buffer);
+    let here = libc::lseek(fd, 0, SEEK_CUR);
     let after = libc::lseek(fd, 0, SEEK_END);
-    let length = read.length;
-    let steady = length == buffer.len() || is_all(before, length) && is_all(after, length);
+    let steady = before == here && here == after || read.length == buffer.len();
     Contents {
         whole: read.whole && steady,
-        length,
+        length: read.length,
     }
 }
 
-fn read_file(path: &[u8], buffer: &mut [u8]) -> Contents
+// Reads the file of a name, which stands at the front of some bytes.
+fn read_file(named: &[u8], name: usize, buffer: &mut [u8]) -> Contents
+    requires { ⌜ name ≤ length (now named) ⌝ }
     ensures { λ r. ⌜ r .length ≤ length (now (buffer .exit)) ⌝ }
 {
-    let fd = os::open_read(path);
+    let fd = os::open_read(&named[..name]);
     if fd < 0 {
         return Contents {
             whole: false,
@@ -94,7 +89,7 @@ fn audit_argument(i: usize, output: &mut [u8; AUDIT_ROOM]) -> Audited
 {
     let name = os::arg(i, output);
     let mut buffer = [0u8; FRONT];
-    let read = read_file(&output[..name], &mut buffer);
+    let read = read_file(output, name, &mut buffer);
     let length = read.length;
     if read.whole {
         auditing::audit(&buffer[..length], output, name)
