@@ -6,9 +6,10 @@ use mathlib.Core.Logic.{⊎-elim}
 use native.Mathlib.Omega.{arith}
 use lib.ListN.{length, getD, take, drop, length-append, length-take}
 use lib.Seq.{sets-eq, take-all, length-take-le}
+use lib.Dec.{ltb}
 use borrow.Author.Tests.{lt-ltb, le-ltb}
-use Rattle.bits.proofs.Cases.{le-or-lt}
-use Rattle.card.specs.Outcome.{accepted}
+use Rattle.bits.proofs.Cases.{le-or-lt, cond-le}
+use Rattle.card.specs.Outcome.{Outcome, accepted, refused}
 use Rattle.card.specs.Reading.{readCard}
 use Rattle.card.specs.declared.CardRule.the-variants.{Present}
 use Rattle.card.proofs.Acceptance.{accepted-length}
@@ -75,6 +76,15 @@ module _ (bytes : List ℕ) where
   unfolding passes
   short-passes l = rw (le-ltb 2048 (length bytes) l)
 
+under-most : (o : Outcome) → passesUnder o ≤ 1
+unfolding passesUnder
+under-most accepted = omega arith
+under-most (refused number offset) = omega arith
+
+passes-most : (bytes : List ℕ) → passes bytes ≤ 1
+unfolding passes
+passes-most bytes = cond-le (ltb 2048 (length bytes)) 0 (passesUnder (readCard bytes .outcome)) 1 (omega arith) (under-most (readCard bytes .outcome))
+
 by-the-front : (name bytes whole : List ℕ) → bytes ≡ take 2049 whole → (auditLine name whole ≡ auditLine name bytes) × (passes whole ≡ passes bytes)
 by-the-front name bytes whole e =
     ⊎-elim
@@ -101,3 +111,7 @@ audits {after} bytes output name r small e w p =
       good-passes = good-passes (nameIn output name) bytes small;
       by-the-front = by-the-front (nameIn output name) bytes;
     }
+
+-- a file is counted once at most
+pub passed-most : {bytes output after : List ℕ} {name : ℕ} {r : Audited} → Audits bytes output name r after → r .passed ≤ 1
+passed-most {bytes} promise = omega (arith, promise .counted, passes-most bytes)
