@@ -1,5 +1,5 @@
 -- A good card, as the page has it: its limits and orthogonality against those of an acceptable card, and what reading comes to.
-use Prim.Native.Nat.{ℕ, zero, suc, _-_, _<_}
+use Prim.Native.Nat.{ℕ, _-_, _≤_, _<_}
 use mathlib.Core.Path.{_≡_, sym, ap, _∙_}
 use mathlib.Core.List.{List, [], _∷_}
 use mathlib.Core.Logic.{⊎-elim}
@@ -35,7 +35,7 @@ module _ (p m : ℕ) where
   streams-from = from-places (StreamIn p m) (AllStreamsIn p m) noStream tt (λ x xs a. a)
 
 -- ---- a field that has a default, under either rule
-module _ {stands default v : ℕ} where
+module _ (stands default v : ℕ) where
   stands-bit : (rule : CardRule) → Stands rule stands default v → stands ≤ 1
   unfolding stated
   stands-bit Former s = s .0
@@ -43,7 +43,7 @@ module _ {stands default v : ℕ} where
 
   stands-default : (rule : CardRule) → Stands rule stands default v → stands ≡ 0 → v ≡ default
   unfolding stated
-  stands-default Former s = s .1
+  stands-default Former s e = s .1 e
   stands-default Present s e = stated-default default v (sym s ∙ e)
 
 module _ (f : Fields) where
@@ -109,15 +109,15 @@ module _ (f : Fields) where
         record {
           ranges =
               record {
-                kStands-bit = stands-bit rule (w .k-stands);
-                nStands-bit = stands-bit rule (w .n-stands);
+                kStands-bit = stands-bit (f .head .kStands) 1 (f .head .k) rule (w .k-stands);
+                nStands-bit = stands-bit (f .head .nStands) 2 (f .head .n) rule (w .n-stands);
                 number-most = w .number-is-a-byte;
                 k-least = w .k-in-range .0;
                 k-most = w .k-in-range .1;
-                k-default = stands-default rule (w .k-stands);
+                k-default = stands-default (f .head .kStands) 1 (f .head .k) rule (w .k-stands);
                 n-least = w .n-in-range .0;
                 n-most = w .n-in-range .1;
-                n-default = stands-default rule (w .n-stands);
+                n-default = stands-default (f .head .nStands) 2 (f .head .n) rule (w .n-stands);
                 m-most = w .m-in-range;
                 row-count = w .generators-for-each;
                 rows-in = masks-from p m (f .rows) (λ i h. w .generators-in-range i (omega (arith, w .generators-for-each)));
