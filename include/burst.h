@@ -15,7 +15,7 @@
  *     burst_receive   received frames, in         ->  information frames, out, corrected
  *
  * Which code is used, and how the receiver votes on each digit, stands on a link card: a row of 15
- * to 1,163 bytes that you get with the probe, or from standard_card below. Each function that works by a
+ * to 755 bytes that you get with the probe, or from standard_card below. Each function that works by a
  * card takes its bytes at each call, reads them and tests them; there is nothing to open, to keep or to close.
  *
  *     uint8_t link[3 + BURST_MOST_MEMORY], came[3];
@@ -86,6 +86,10 @@
  * here that takes a card, and isn't lost: the program `rewrite` reads such a card from its standard input and
  * writes it anew, a byte shorter for each, to its standard output. `./rewrite-cards FILE..` does this for
  * stored files.
+ *
+ * Once, too, a card could have more than ten checks for an information stream. It is refused now (7) by the same
+ * functions and by `rewrite`, and there is no other form to write it in. `./audit-cards FILE..` finds such cards
+ * among stored files.
  *
  *
  * Standard cards
@@ -184,8 +188,8 @@ extern "C" {
 #define BURST_MOST_INFORMATION_STREAMS 4 /* k, at least 1 */
 #define BURST_MOST_STREAMS 8             /* n, at least k + 1 */
 #define BURST_MOST_MEMORY 31             /* m, at least 0 */
-#define BURST_MOST_CHECKS 16             /* J, at least 1, for each information stream */
-#define BURST_MOST_CARD_BYTES 1163       /* no card that is accepted is longer */
+#define BURST_MOST_CHECKS 10             /* J, at least 1, for each information stream */
+#define BURST_MOST_CARD_BYTES 755        /* no card that is accepted is longer */
 #define BURST_MOST_FRAMES 1048576        /* frames of a burst as it is sent, with its tail */
 #define BURST_STACK_BYTES 12288          /* stack, for a call */
 
@@ -204,7 +208,7 @@ enum burst_refusal {
     BURST_MEMORY_ABOVE_LIMIT = 4,       /* m is above 31 */
     BURST_MAP_BEYOND_STREAMS = 5,       /* a map has a bit set for a stream or field that there isn't */
     BURST_MASK_OUT_OF_RANGE = 6,        /* a mask that stands on the card is zero, or has a bit above m */
-    BURST_CHECK_COUNT_OUT_OF_RANGE = 7, /* J is not 1 to 16 */
+    BURST_CHECK_COUNT_OUT_OF_RANGE = 7, /* J is not 1 to 10; for more than 10 see "Cards written out" above */
     BURST_BYTES_AFTER_CHECKS = 10,      /* bytes are left after the last check */
 
     /* The card has the form that was good before, and has to be rewritten (or it is damaged): */

@@ -260,6 +260,18 @@ def framed(card, frames):
     return len(card).to_bytes(2, "little") + card + bytes(frames)
 
 
+def syndrome(a, j, p):
+    """The check that is one syndrome, of p parity streams."""
+    return [1 << a if j == stream else 0 for stream in range(p)]
+
+
+def of_eleven_checks(count):
+    """A card with so many checks of eleven, all of them good: one for each term. tests/inputs/cards.c has the same."""
+    generators = [0b11, 0b101, 0b1001, 0b10001, 1, 1, 1]
+    checks = [syndrome(a, j, 7) for j, terms in enumerate(generators) for a in range(5) if terms >> a & 1]
+    return Card(13, 1, 8, 4, [generators], [checks[:count]])
+
+
 def of_terms(terms):
     """The card of a code with one generator of these terms: a check for the syndrome of each, their count as its number, the last one as m."""
     return Card(len(terms), 1, 2, terms[-1], [[sum(1 << a for a in terms)]], [[[1 << a] for a in terms]])

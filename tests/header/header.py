@@ -38,7 +38,7 @@ MOST_N = range_of_n(0)[-1]
 assert all(len(card.sent([0] * 9)) == 9 + card.m and len(card.received([0] * 9)) == 9 - card.m for card in (P, Q, R, T))
 assert all(card.received([0] * card.m) == [] for card in (P, Q, R, T))
 assert all(len(card.bytes()) == 5 * J + 10 and card.number == J for J, card in STANDARD.items())
-NUMBER_WORDS = {6: "six"}
+NUMBER_WORDS = {6: "six", 10: "ten"}
 
 # A card's refusals, to which document 02 added one more, and those that only sessions meet.
 OF_CARDS = range(ENDS_INSIDE_FIELD, BYTES_AFTER_LAST_CHECK + 1)
@@ -64,6 +64,7 @@ burst_receive gives input_length - m frames, or 0 if there are no more than m
 if (length < 0) return show_refusal(-length); .. written[0] to written[length - 1] are the card, for the next unit ..
 k is {DEFAULT_K} and n is {DEFAULT_N} where it doesn't state them, and it may not state these all the same ({DEFAULT_STATED}).
 Once a card could state k as {DEFAULT_K} and n as {DEFAULT_N}.
+Once, too, a card could have more than {NUMBER_WORDS[RANGE_OF_J[-1]]} checks for an information stream. It is refused now ({J_OUTSIDE_RANGE}) by the same functions
 There are {NUMBER_WORDS[len(STANDARD)]}, all with k {DEFAULT_K} and n {DEFAULT_N}: one for each number of checks J from {span(list(STANDARD))}, which is the card's number too.
 An even J puts J / 2 wrong digits right (see "What is corrected" below), and an odd J no more than the one before it.
 int32_t length = standard_card(6, card, sizeof card); if (length <= 0) return show_no_card();
@@ -105,7 +106,7 @@ CONSTANTS = {
     "BURST_MEMORY_ABOVE_LIMIT": f"m is above {RANGE_OF_M[-1]}",
     "BURST_MAP_BEYOND_STREAMS": "a map has a bit set for a stream or field that there isn't",
     "BURST_MASK_OUT_OF_RANGE": "a mask that stands on the card is zero, or has a bit above m",
-    "BURST_CHECK_COUNT_OUT_OF_RANGE": f"J is not {span(RANGE_OF_J)}",
+    "BURST_CHECK_COUNT_OUT_OF_RANGE": f'J is not {span(RANGE_OF_J)}; for more than {RANGE_OF_J[-1]} see "Cards written out" above',
     "BURST_BYTES_AFTER_CHECKS": "bytes are left after the last check",
     "BURST_DEFAULT_STATED": f'it states k as {DEFAULT_K} or n as {DEFAULT_N}; see "Cards written out" above',
     "BURST_OWN_DIGIT_UNTOUCHED": "a check doesn't look at the digit that it votes on",

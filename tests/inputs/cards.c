@@ -236,15 +236,16 @@ static void set_after(int masks[MOST_PARITY + 1][MOST_MEMORY + 1], int i, int r)
 }
 
 /* The terms of the one generator, and the check that each syndrome goes to, 0 for none: those of the program `bench`,
- * where they came from a search. The same sums of syndromes are the checks of all four streams. */
+ * where they came from a search that found sixteen checks; ten of them are taken. The same sums of syndromes are the
+ * checks of all four streams. */
 void longest_card(struct fields *card)
 {
     static const uint8_t terms[] = {0, 58, 70, 87, 91, 95, 99, 101, 104, 108, 109, 113, 119, 121, 122, 123};
     static const uint8_t check_of[] = {
-        1, 3, 8, 15, 6, 11, 12, 10, 16, 15, 13, 10, 3, 9, 11, 2, 5, 4, 11, 8, 7, 5, 16, 1, 16, 6, 14, 8, 13, 7, 14,
-        15, 4, 16, 9, 12, 16, 14, 10, 11, 2, 7, 4, 12, 14, 8, 0, 0, 13, 13, 10, 14, 15, 2, 1, 0, 0, 16, 2, 3, 0, 0,
-        7, 14, 0, 16, 6, 14, 0, 10, 3, 15, 14, 14, 5, 9, 13, 13, 7, 10, 11, 1, 7, 10, 8, 0, 14, 4, 0, 8, 13, 5, 14,
-        0, 13, 6, 12, 8, 0, 7, 0, 8, 16, 16, 9, 12, 13, 14, 10, 11, 0, 16, 0, 12, 14, 16, 0, 0, 14, 13, 0, 14, 15, 16};
+        1, 3, 8, 0, 6, 0, 0, 10, 0, 0, 0, 10, 3, 9, 0, 2, 5, 4, 0, 8, 7, 5, 0, 1, 0, 6, 0, 8, 0, 7, 0, 0, 4, 0, 9,
+        0, 0, 0, 10, 0, 2, 7, 4, 0, 0, 8, 0, 0, 0, 0, 10, 0, 0, 2, 1, 0, 0, 0, 2, 3, 0, 0, 7, 0, 0, 0, 6, 0, 0, 10,
+        3, 0, 0, 0, 5, 9, 0, 0, 7, 10, 0, 1, 7, 10, 8, 0, 0, 4, 0, 8, 0, 5, 0, 0, 0, 6, 0, 8, 0, 7, 0, 8, 0, 0, 9,
+        0, 0, 0, 10};
     set_sizes(card, 11, 4, 8, MOST_MEMORY);
     for (int i = 0; i < 4; i++) {
         card->J[i + 1] = MOST_CHECKS;
@@ -303,24 +304,31 @@ static void add_errors(const struct fields *card, const struct touched *own, str
             taken->error[b][s] |= own->error[b][s];
 }
 
+/* Replaces check q of stream i by a random one. Gives whether it fits, and adds its errors then. */
+static int random_check_fits(struct random *r, struct fields *card, int i, int q, int more, struct touched *taken)
+{
+    random_check(r, card, i, q, more);
+    struct touched own = reference_touched(card, i, q);
+    if (!fits(card, i, &own, taken))
+        return 0;
+    add_errors(card, &own, taken);
+    return 1;
+}
+
 /* Takes random checks for stream i as long as they fit, up to `most`. Single syndromes touch the fewest errors, so
  * most checks are found where they are tried first. */
 static void random_checks(struct random *r, struct fields *card, int i, int most)
 {
-    struct touched taken, own;
+    struct touched taken;
     int singles = one_in(r, 2) ? 16 * most : 0;
     memset(&taken, 0, sizeof taken);
     card->J[i] = 0;
     for (int tries = 0; card->J[i] < most && (card->J[i] == 0 || tries < 24 * most); tries++) {
         int q = card->J[i] + 1;
-        random_check(r, card, i, q, tries < singles ? 1 : 4);
-        own = reference_touched(card, i, q);
-        if (fits(card, i, &own, &taken)) {
-            add_errors(card, &own, &taken);
+        if (random_check_fits(r, card, i, q, tries < singles ? 1 : 4, &taken))
             card->J[i] = q;
-        } else {
+        else
             memset(card->check[i][q], 0, sizeof card->check[i][q]);
-        }
     }
 }
 
@@ -334,8 +342,9 @@ void random_card_of_shape(struct random *r, int k, int n, int m, int most, int t
 
 void random_card(struct random *r, struct fields *card)
 {
-    if (one_in(r, 20)) { /* many checks: one stream, many sparse generators */
-        random_card_of_shape(r, 1, between(r, 7, MOST_STREAMS), between(r, 28, MOST_MEMORY), MOST_CHECKS, 5, card);
+    if (one_in(r, 20)) { /* many checks: few information streams, many sparse generators */
+        int k = between(r, 1, 2), n = between(r, 7, MOST_STREAMS);
+        random_card_of_shape(r, k, n, between(r, 28, MOST_MEMORY), MOST_CHECKS, 5, card);
         return;
     }
     int k = one_in(r, 3) ? 1 : between(r, 1, MOST_INFORMATION);
@@ -370,6 +379,73 @@ int vary_card(struct random *r, struct fields *card)
         swap_checks(card, i, between(r, 1, last - 1), last);
     }
     return kind > 2;
+}
+
+/* ---- Many checks ---- */
+
+int has_most_checks(const struct fields *card)
+{
+    for (int i = 1; i <= card->k; i++)
+        if (card->J[i] == MOST_CHECKS)
+            return 1;
+    return 0;
+}
+
+/* The card's bytes, but without a check of its last stream. */
+static void begin_checks(struct many_checks_card *many, struct fields *card, int state_k)
+{
+    card->J[card->k] = 0;
+    many->length = card_bytes(card, state_k, 0, many->bytes);
+    many->place = many->length - 1;
+}
+
+/* Adds check 1 of the card's last stream to the bytes, where there is room for more checks than in the fields. */
+static void add_check(struct many_checks_card *many, const struct fields *card)
+{
+    many->length = (size_t)(write_check(card, card->k, 1, many->bytes + many->length) - many->bytes);
+    many->bytes[many->place]++;
+    if (many->bytes[many->place] == MOST_CHECKS)
+        many->up_to_most = many->length;
+}
+
+/* Four generators with two terms and three with one. The syndrome of each term is a check: no two of them have another
+ * error in common. */
+void eleven_checks_card(int state_k, struct many_checks_card *many)
+{
+    static const int last_term[] = {1, 2, 3, 4, 0, 0, 0};
+    struct fields card;
+    set_sizes(&card, 13, 1, MOST_STREAMS, 4);
+    for (int j = 1; j <= card.p; j++)
+        card.g[1][j][0] = card.g[1][j][last_term[j - 1]] = 1;
+    begin_checks(many, &card, state_k);
+    for (int j = 1; j <= card.p; j++)
+        for (int a = 0; a <= card.m; a++)
+            if (card.g[1][j][a]) {
+                card.check[1][1][j][a] = 1;
+                add_check(many, &card);
+                card.check[1][1][j][a] = 0;
+            }
+}
+
+void random_many_checks_card(struct random *r, struct many_checks_card *many)
+{
+    struct fields card;
+    do {
+        struct touched taken;
+        int k = one_in(r, 3) ? 2 : 1;
+        random_card_of_shape(r, k, MOST_STREAMS, between(r, 28, MOST_MEMORY), MOST_CHECKS, 5, &card);
+        begin_checks(many, &card, one_in(r, 2));
+        memset(&taken, 0, sizeof taken);
+        for (int tries = 0; tries < 400 && many->bytes[many->place] < MOST_FORMER_CHECKS; tries++)
+            if (random_check_fits(r, &card, k, 1, tries < 300 ? 1 : 4, &taken))
+                add_check(many, &card);
+    } while (many->bytes[many->place] <= MOST_CHECKS);
+}
+
+void leave_most_checks(struct many_checks_card *many)
+{
+    many->bytes[many->place] = MOST_CHECKS;
+    many->length = many->up_to_most;
 }
 
 /* ---- Cards that state a default ---- */
@@ -439,7 +515,7 @@ void spoil_card(struct random *r, struct fields *card)
         card->g[i][between(r, 1, card->p)][between(r, 0, card->m)] ^= 1;
         break;
     case 5: /* no such J */
-        card->J[i] = one_in(r, 2) ? 0 : between(r, MOST_CHECKS + 1, 255);
+        card->J[i] = one_in(r, 3) ? 0 : between(r, MOST_CHECKS + 1, one_in(r, 2) ? MOST_FORMER_CHECKS : 255);
         break;
     case 6: /* a mask with a bit above m, if there is room above */
         if (card->m < MOST_MEMORY)

@@ -57,6 +57,29 @@ enum stated {
 /* A random card stated in that way; `card` is the card that it was before R-4, if it was one (the first three). */
 void random_stated_card(struct random *r, enum stated way, struct fields *card, struct stated_card *stated);
 
+enum { MOST_FORMER_CHECKS = 16 }; /* before document 02's R-13 */
+
+/* A card's bytes with more than MOST_CHECKS checks for its last information stream, MOST_FORMER_CHECKS at most. The
+ * checks are good ones: with the first MOST_CHECKS of them it is a card, but for k where it is stated as 1. */
+struct many_checks_card {
+    uint8_t bytes[MOST_CARD_BYTES];
+    size_t length;
+    size_t place;      /* of that stream's J */
+    size_t up_to_most; /* the length up to the last check that it may have */
+};
+
+/* One with eleven checks, k 1 and n 8. J is at byte 34, or with k stated at 35, and each check has five bytes. */
+void eleven_checks_card(int state_k, struct many_checks_card *many);
+
+/* Any. k is 1 most often, and then stated as often as not. */
+void random_many_checks_card(struct random *r, struct many_checks_card *many);
+
+/* Leaves it the first MOST_CHECKS of its checks. */
+void leave_most_checks(struct many_checks_card *many);
+
+/* Whether an information stream of the card has MOST_CHECKS checks. */
+int has_most_checks(const struct fields *card);
+
 /* Whether a generator of the card is zero, and whether a check has a mask that is. */
 int has_zero_generator(const struct fields *card);
 int has_zero_check_mask(const struct fields *card);

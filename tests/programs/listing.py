@@ -9,6 +9,7 @@ import sys
 
 sys.dont_write_bytecode = True
 from running import SAMPLES, at_once, by_the_byte, difference, run
+from cards import ELEVEN_CHECKS, LONGEST, TEN_CHECKS
 from reference import LONGEST_READ, P, Q, R, T, Card, framed, listing
 
 MOST_FRAMES = 32768
@@ -51,6 +52,9 @@ def inputs():
         given[f"card P with {name}, and a frame with a digit too many"] = framed(P.bytes(*stated), [4])
         given[f"card P with {name}, the card cut after four bytes"] = framed(P.bytes(*stated), [])[:6]
         given[f"card P with {name}, the card cut after three bytes"] = framed(P.bytes(*stated), [])[:5]
+    for name, card in {"the longest card": LONGEST, "ten checks": TEN_CHECKS, "eleven checks": ELEVEN_CHECKS}.items():
+        given[name + ", and 100 frames"] = framed(card.bytes(), frames(card, 100))
+    assert listing(given["eleven checks, and 100 frames"]) == b"refused 7 at 34\n"
     given["card T with n stated as 2"] = framed(T.bytes()[:3] + b"\2" + T.bytes()[4:], [])
     for name, card in {"card P": P, "card T": T, "four streams, no memory": WIDE, "memory 31": LONG}.items():
         given[name + ", and 32,768 frames"] = framed(card.bytes(), frames(card, MOST_FRAMES))

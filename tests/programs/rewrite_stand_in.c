@@ -7,6 +7,7 @@
  *     present    cards are read by the present rule
  *     as_is      an accepted card is written as it stands
  *     length     an input of 2,049 bytes is read as well
+ *     checks     a card with too many checks is written as it stands
  *     cut        what is written lacks its last byte
  *     silent     nothing is written */
 #include "reference/reference.h"
@@ -25,7 +26,8 @@ static size_t answer(const char *mistake)
     struct card_answer present = reference_read_card(input, length, &card);
     if (strcmp(mistake, "present") == 0 && former.refusal != present.refusal)
         return (size_t)sprintf((char *)output, "refused %d at %zu\n", present.refusal, present.offset);
-    if (strcmp(mistake, "as_is") == 0 && former.refusal == 0) {
+    int too_many = former.refusal == J_OUTSIDE_RANGE && input[former.offset] > MOST_CHECKS;
+    if ((strcmp(mistake, "as_is") == 0 && former.refusal == 0) || (strcmp(mistake, "checks") == 0 && too_many)) {
         memcpy(output, input, length);
         return length;
     }

@@ -15,6 +15,8 @@
  * That a level near zero is erased (document 02, R-7) was added by an author who had not looked at the library's code,
  * from that document's paragraph. That zeros are among these levels, that what is infinite or not a number is refused as
  * before, and that beside the mark 'erased' no level is looked at, the author was told.
+ * That J is at most ten (document 02, R-13) was added by an author who had not looked at the library's code, from that
+ * document's paragraph.
  *
  * It is made to be read, not to be fast. A digit is an int that is 0 or 1, a sum of digits is a
  * sum with one `% 2` at its end, and a stream keeps every frame from time 0 on: no masks, no
@@ -32,9 +34,9 @@ enum {
     MOST_STREAMS = 8,     /* n */
     MOST_PARITY = 7,      /* p = n - k, k at least 1 */
     MOST_MEMORY = 31,     /* m */
-    MOST_CHECKS = 16,     /* J */
+    MOST_CHECKS = 10,     /* J */
     LEAST_CARD_BYTES = 15, /* one generator and one check of one mask: with less no check touches its own digit */
-    MOST_CARD_BYTES = 1163,
+    MOST_CARD_BYTES = 755,
     MOST_STORED_BYTES = 2048, /* of a card to be rewritten */
     MOST_FRAMES = 1048576,
     LEAST_STANDARD_CHECKS = 2, /* J of standard cards */

@@ -17,7 +17,7 @@ static struct {
     [BEST_MANY_WRONG] = {"  the same: receiving, 1 in 10 wrong", AT_MOST, 1.3, 0, 0, ""},
     [SPECIALISED] = {"below the specialised C (k 1, n 2, from 65,536 frames on)", BELOW, 1, 0, 0, ""},
     [SPECIALISED_MANY_WRONG] = {"  the same: receiving, 1 in 10 wrong", BELOW, 1, 0, 0, ""},
-    [LONGEST_CARD] = {"at most 0.7 times the generic C (1163 B, from 65,536 frames on)", AT_MOST, 0.7, 0, 0, ""},
+    [LONGEST_CARD] = {"at most 0.7 times the generic C (755 B, from 65,536 frames on)", AT_MOST, 0.7, 0, 0, ""},
     [VITERBI] = {"at least ten times faster than the Viterbi decoder", AT_LEAST, 10, 0, 0, ""},
     [SESSION] = {"a frame of a session under 60 ns", BELOW, 60, 0, 0, ""},
 };

@@ -4,6 +4,8 @@
 #ifndef PLAIN_H
 #define PLAIN_H
 
+#include "burst.h"
+
 #include <stddef.h>
 #include <stdint.h>
 
@@ -12,7 +14,7 @@ struct plain_card {
     int number, k, p, m;
     uint32_t generators[4][7];
     int counts[4];
-    uint32_t checks[4][16][7];
+    uint32_t checks[4][BURST_MOST_CHECKS][7];
 };
 
 /* 0, or the number of the refusal, 1 to 10 or 18, and its byte offset. A refused card is not to be used. */

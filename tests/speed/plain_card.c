@@ -1,7 +1,5 @@
 #include "plain.h"
 
-#include "burst.h"
-
 #include <string.h>
 
 /* How far a card is read: `at` is the place of the next byte, or after a refusal its offset. The functions that read give

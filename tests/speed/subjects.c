@@ -2,7 +2,7 @@
 
 struct subject subjects[SUBJECTS] = {
     {.name = "P"}, {.name = "Q"}, {.name = "R"}, {.name = "std 7"}, {.name = "J8m21"},
-    {.name = "T"}, {.name = "k3n6m12"}, {.name = "1163 B"}};
+    {.name = "T"}, {.name = "k3n6m12"}, {.name = "755 B"}};
 
 static void open_subject(struct subject *s)
 {

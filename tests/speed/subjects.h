@@ -18,13 +18,13 @@ extern struct subject subjects[SUBJECTS];
 /* Works out their cards. */
 void open_subjects(void);
 
-/* P, R, J8m21 and the card of 1,163 bytes. */
+/* P, R, J8m21 and the card of 755 bytes. */
 int is_main(const struct subject *s);
 
 /* One information and one parity stream. */
 int has_one_of_each(const struct subject *s);
 
-/* The card of 1,163 bytes. */
+/* The card of 755 bytes. */
 int is_longest(const struct subject *s);
 
 #endif

@@ -77,8 +77,30 @@ static void bench_cards(struct random *r)
     bench_card('P', &fields);
     fields.J[1] = 0;
     expect_card(r, &fields, 7);
-    fields.J[1] = 17;
+    fields.J[1] = 11;
     expect_card(r, &fields, 7);
+}
+
+/* Ten checks, and every number as their J. Then eleven, as good as the ten: J alone is refused, and by the former rule
+ * too, under which k could be stated as 1. */
+static void bench_most_checks(struct random *r)
+{
+    struct many_checks_card ten, eleven;
+    eleven_checks_card(0, &ten);
+    leave_most_checks(&ten);
+    for (int J = 0; J < 256; J++) {
+        int refusal = J == 0 || J > 10 ? 7 : J < 10 ? 10 : 0;
+        ten.bytes[34] = (uint8_t)J;
+        expect_bytes(r, ten.bytes, 85, refusal, refusal == 10 ? 35 + 5 * (size_t)J : 34);
+    }
+    eleven_checks_card(0, &eleven);
+    expect_bytes(r, eleven.bytes, 90, 7, 34);
+    expect_not_rewritten(eleven.bytes, 90, 7, 34);
+    eleven_checks_card(1, &eleven);
+    expect_bytes(r, eleven.bytes, 91, 18, 2);
+    expect_not_rewritten(eleven.bytes, 91, 7, 35);
+    leave_most_checks(&eleven);
+    rewrite_stored(r, eleven.bytes, 86);
 }
 
 /* P with k stated as 1, with n stated as 2, and with both: refused, and rewritten as P. Then cards that end in or just
@@ -265,6 +287,7 @@ void bench_round(struct random *r)
 {
     bench_bursts(r);
     bench_cards(r);
+    bench_most_checks(r);
     bench_stated(r);
     bench_written(r);
     bench_erased();

@@ -7,6 +7,7 @@
 struct counts counts;
 struct written written;
 struct stating stating;
+struct many_checks many_checks;
 struct pairs pairs;
 struct standard standard;
 struct erased erased;
@@ -43,6 +44,14 @@ static void print_stating(void)
            pairs.unequal, pairs.order_alone);
 }
 
+static void print_checks(void)
+{
+    printf("%ld streams by a card with J %d; cards good but for J", many_checks.most, MOST_CHECKS);
+    for (int J = MOST_CHECKS + 1; J <= MOST_FORMER_CHECKS; J++)
+        printf(" %d: %ld", J, many_checks.too_many[J]);
+    printf("; %ld of them stated k as 1\n", many_checks.stated);
+}
+
 void print_counts(void)
 {
     printf("%ld bursts, %ld calls of card_write; %ld cards, %ld of them accepted; refused:", counts.bursts.made,
@@ -55,6 +64,7 @@ void print_counts(void)
     print_refused("card_write", &counts.writes);
     print_written();
     print_stating();
+    print_checks();
     printf("%ld calls of standard_card, %ld refused with 13; %ld J with a card, %ld without; %ld streams with as many "
            "wrong digits as they stand\n",
            standard.calls.made, standard.calls.refused[13], standard.cards, standard.none, standard.streams_at_limit);
@@ -95,6 +105,12 @@ static int stated_enough(void)
     return enough && pairs.equal >= 100 && pairs.unequal >= 1000 && pairs.order_alone >= 50;
 }
 
+/* The most checks that there may be, and one more. */
+static int checks_enough(void)
+{
+    return many_checks.most >= 300 && many_checks.too_many[MOST_CHECKS + 1] >= 15 && many_checks.stated >= 30;
+}
+
 /* Up to the correctable number both circuits must give what was sent, so most streams are to be beyond it. */
 static int second_tried_enough(void)
 {
@@ -130,6 +146,10 @@ int tried_enough(void)
         printf("FAILED: too few cards that state a default, or too few pairs\n");
         enough = 0;
     }
+    if (!checks_enough()) {
+        printf("FAILED: too few cards with the most checks, or with more\n");
+        enough = 0;
+    }
     if (!second_tried_enough()) {
         printf("FAILED: too few streams for the second circuit, or not most of them beyond the correctable number\n");
         enough = 0;
@@ -148,8 +168,8 @@ int tried_enough(void)
                MOST_STANDARD_CARD_BYTES);
         enough = 0;
     }
-    if (counts.most_checks < MOST_CHECKS || counts.cards < 20000 || counts.streams < 5000 || counts.corrected < 500 || counts.beyond < 500) {
-        printf("FAILED: too few cards, streams or checks\n");
+    if (counts.cards < 20000 || counts.streams < 5000 || counts.corrected < 500 || counts.beyond < 500) {
+        printf("FAILED: too few cards or streams\n");
         enough = 0;
     }
     return enough;

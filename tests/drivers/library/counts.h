@@ -13,7 +13,6 @@ struct counts {
     struct calls bursts, writes;
     long cards, cards_accepted, streams, clean, corrected, beyond, correctable;
     long by_second, by_second_beyond; /* streams received by the second circuit too; beyond the correctable number */
-    int most_checks;                  /* the largest J of a stream's card */
     long cards_refused[32]; /* cards, by the refusal's number */
 };
 
@@ -28,6 +27,14 @@ struct written {
 struct stating {
     long ways[WAYS_OF_STATING];
     long random, rewritten;
+};
+
+/* Streams by a card with the most checks; cards that are good but for having more, by their J, and those of them that
+ * state k as 1. */
+struct many_checks {
+    long most;
+    long too_many[MOST_FORMER_CHECKS + 1];
+    long stated;
 };
 
 /* Pairs of accepted cards. */
@@ -52,6 +59,7 @@ struct erased {
 extern struct counts counts;
 extern struct written written;
 extern struct stating stating;
+extern struct many_checks many_checks;
 extern struct pairs pairs;
 extern struct standard standard;
 extern struct erased erased;

@@ -1,10 +1,11 @@
 /* Sets the library (libburst.a, by include/burst.h) against the reference: random and damaged cards, each also
- * written out, cards that state a default, standard cards, random bursts with few, many and only wrong digits, every
- * output size around the count. Each call's answer, every output byte, the guard bytes around each lent buffer, and the
- * card and input themselves are compared. What the library receives by the first circuit is also set against the
- * reference's second one, on streams most of which are beyond the correctable number. Bursts carry no erased digits: on
- * those the reference's sessions alone are set against each other, and what comes out of them against what was sent. What
- * its readings yield is set against a table, and levels outside the band against the same frames as bytes.
+ * written out, cards that state a default, cards with too many checks, standard cards, random bursts with few, many and
+ * only wrong digits, every output size around the count. Each call's answer, every output byte, the guard bytes around
+ * each lent buffer, and the card and input themselves are compared. What the library receives by the first circuit is
+ * also set against the reference's second one, on streams most of which are beyond the correctable number. Bursts carry
+ * no erased digits: on those the reference's sessions alone are set against each other, and what comes out of them against
+ * what was sent. What its readings yield is set against a table, and levels outside the band against the same frames as
+ * bytes.
  *
  *     driver               everything, with the seed that is always the same
  *     driver SEED          everything, with another seed
@@ -31,6 +32,9 @@ static int run_round(long round)
     if (turn < STATED_CARDS)
         return stated_card_round(&r, (enum stated)(turn % WAYS_OF_STATING)), 1;
     turn -= STATED_CARDS;
+    if (turn < MANY_CHECKS)
+        return many_checks_round(&r), 1;
+    turn -= MANY_CHECKS;
     if (turn < PAIRS)
         return pair_round(&r), 1;
     turn -= PAIRS;

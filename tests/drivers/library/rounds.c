@@ -82,6 +82,29 @@ void stated_card_round(struct random *r, enum stated way)
     stating.ways[way]++;
 }
 
+void many_checks_round(struct random *r)
+{
+    struct fields fields;
+    struct many_checks_card many;
+    random_many_checks_card(r, &many);
+    int stated = states_default_k(many.bytes);
+    many_checks.too_many[many.bytes[many.place]]++;
+    many_checks.stated += stated;
+    expect_bytes(r, many.bytes, many.length, stated ? 18 : 7, stated ? 2 : many.place);
+    expect_not_rewritten(many.bytes, many.length, 7, many.place);
+    leave_most_checks(&many);
+    if (reference_read_card_under(FORMER, many.bytes, many.length, &fields).refusal)
+        fail("a card with the most checks is refused");
+    if (stated) {
+        rewrite_stored(r, many.bytes, many.length);
+        return;
+    }
+    expect_bytes(r, many.bytes, many.length, 0, 0);
+    write_out(r, &fields, many.bytes, many.length);
+    stream(r, &fields, many.bytes, many.length);
+    stream_at_limit(r, &fields, many.bytes, many.length);
+}
+
 /* ---- Pairs of cards ---- */
 
 /* Two accepted cards have equal bytes exactly if they have equal fields, the order of checks included. */

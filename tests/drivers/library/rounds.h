@@ -7,6 +7,7 @@
 enum {
     RANDOM_CARDS = 8000,  /* rounds with a random card, each with streams if the card is accepted */
     STATED_CARDS = 700,   /* rounds with a card that states a default, in each way as often */
+    MANY_CHECKS = 150,    /* rounds with a card that has more checks than it may */
     PAIRS = 1000,         /* rounds with two cards, equal or not */
     DAMAGED_CARDS = 24,   /* rounds in which every byte of a card is changed, and it is cut and extended everywhere */
     STANDARD_CARDS = 41,  /* rounds with a J from 0 on: a standard card, or none */
@@ -20,13 +21,16 @@ void random_card_round(struct random *r);
 /* A card that states a default, or comes near to it, is refused as it must be, and before anything in a burst is. */
 void stated_card_round(struct random *r, enum stated way);
 
+/* A card that is good but for its number of checks, and k where it is stated; then with as many checks as it may have. */
+void many_checks_round(struct random *r);
+
 /* A card, and another that is made by changing some of its fields, or none and by being stored and rewritten. */
 void pair_round(struct random *r);
 
 /* The bench's cards, as they are and with their defaults stated, and others. */
 void damaged_card_round(struct random *r, int turn);
 
-/* A card of the most bytes that one within the limits can have: k 4, n 8, every mask standing, J 16. And faults in it,
+/* A card of the most bytes that one within the limits can have: k 4, n 8, every mask standing, J 10. And faults in it,
  * most of them far behind its first byte. */
 void longest_card_round(struct random *r);
 

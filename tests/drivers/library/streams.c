@@ -81,9 +81,7 @@ void any_frames(struct random *r, const struct fields *fields, const uint8_t *ca
 static void count_stream(const struct fields *fields, int wrong, int as_sent, int must)
 {
     counts.streams++;
-    for (int i = 1; i <= fields->k; i++)
-        if (fields->J[i] > counts.most_checks)
-            counts.most_checks = fields->J[i];
+    many_checks.most += has_most_checks(fields);
     counts.clean += !wrong;
     counts.corrected += wrong && as_sent;
     counts.beyond += !as_sent;

@@ -5,6 +5,7 @@
 #include "inputs/cards.h"
 #include "streams.h"
 
+#include <stdio.h>
 #include <string.h>
 
 /* ---- Cards written out ---- */
@@ -51,6 +52,16 @@ void expect_bytes(struct random *r, const uint8_t *card, size_t length, int refu
     accepted(r, card, length);
     if (answer.refusal != refusal || (refusal && answer.offset != offset))
         fail("the card is refused by %d at %zu, and not by %d at %zu", answer.refusal, answer.offset, refusal, offset);
+}
+
+void expect_not_rewritten(const uint8_t *card, size_t length, int refusal, size_t offset)
+{
+    char line[40];
+    uint8_t written_instead[MOST_CARD_BYTES];
+    size_t size = (size_t)snprintf(line, sizeof line, "refused %d at %zu\n", refusal, offset);
+    size_t count = reference_rewrite(card, length, written_instead);
+    if (count != size || memcmp(written_instead, line, size) != 0)
+        fail("a stored card is not refused by %d at %zu when it is rewritten", refusal, offset);
 }
 
 void rewrite_stored(struct random *r, const uint8_t *card, size_t length)

@@ -10,6 +10,7 @@ size_t length;
 enum manner manner;
 struct stream stream;
 struct stating stating;
+struct many_checks many_checks;
 
 static int selected; /* the receiving session, by the last `s` */
 static long calls;   /* to receive a frame; where both sessions get it, one to each */
@@ -258,6 +259,22 @@ static size_t stated_bytes(struct random *r, struct fields *card, uint8_t *bytes
     return stated.length;
 }
 
+/* The bytes of a card with more checks than it may have, or with the most. Gives their count. */
+static size_t many_checks_bytes(struct random *r, struct fields *card, uint8_t *bytes)
+{
+    struct many_checks_card many, most;
+    random_many_checks_card(r, &many);
+    most = many;
+    leave_most_checks(&most);
+    reference_read_card_under(FORMER, most.bytes, most.length, card);
+    if (one_in(r, 2))
+        many = most;
+    else
+        many_checks.too_many += !states_default_k(many.bytes);
+    memcpy(bytes, many.bytes, many.length);
+    return many.length;
+}
+
 static void count_stated(const uint8_t *bytes, size_t size)
 {
     struct fields read;
@@ -272,7 +289,9 @@ static int add_card(struct random *r, struct fields *card)
 {
     struct fields read;
     uint8_t bytes[MOST_CARD_BYTES + 64];
-    size_t size = one_in(r, 12) ? stated_bytes(r, card, bytes) : random_bytes(r, card, bytes);
+    size_t size = one_in(r, 12)   ? stated_bytes(r, card, bytes)
+                  : one_in(r, 24) ? many_checks_bytes(r, card, bytes)
+                                  : random_bytes(r, card, bytes);
     size_t stated = one_in(r, 20) ? (size_t)below(r, 3000) : size;
     add_byte((int)(stated % 256));
     add_byte((int)(stated / 256));
@@ -281,8 +300,10 @@ static int add_card(struct random *r, struct fields *card)
     if (stated == size)
         count_stated(bytes, size);
     int accepted = stated == size && reference_read_card(bytes, size, &read).refusal == 0;
-    if (accepted)
+    if (accepted) {
         *card = read;
+        many_checks.most += has_most_checks(card);
+    }
     return accepted;
 }
 

@@ -40,6 +40,13 @@ struct stating {
 
 extern struct stating stating;
 
+/* The cards that are good but for having more than the most checks; and those accepted that have the most. */
+struct many_checks {
+    long too_many, most;
+};
+
+extern struct many_checks many_checks;
+
 void make_trace(struct random *r);
 
 #endif

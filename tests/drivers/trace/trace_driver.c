@@ -1,7 +1,7 @@
 /* Sets the program `trace`, and by it the sessions, against the reference: random cards with the offsets of their
- * refusals, cards that state a default among them, random mixtures of bytes and readings, single digits, whole frames
- * and all digits erased, by the mark and by levels near zero, wrong numbers, refused calls in between, figures after
- * every call, sending past the tail, every kind of f32. What the program writes is compared byte by byte.
+ * refusals, cards that state a default or have too many checks among them, random mixtures of bytes and readings, single
+ * digits, whole frames and all digits erased, by the mark and by levels near zero, wrong numbers, refused calls in between,
+ * figures after every call, sending past the tail, every kind of f32. What the program writes is compared byte by byte.
  *
  * The two receivers are also set against each other, without the reference: of the same calls by session 0 and by
  * session 1 the program must have written the same lines. So it must where one of them gets a frame as a byte and the
@@ -99,6 +99,8 @@ static void print_counts(long traces)
         if (refuses_cards(number))
             printf(" %d: %ld", number, counts.cards_refused[number]);
     printf("\nof stored cards that state k as 1: %ld, n as 2: %ld\n", stating.default_k, stating.default_n);
+    printf("cards good but for J above %d: %ld; accepted ones with that J: %ld\n", MOST_CHECKS, many_checks.too_many,
+           many_checks.most);
     print_answers("receiving session 0", &counts.received[0]);
     print_answers("receiving session 1", &counts.received[1]);
     print_answers("sending session", &counts.sent);
@@ -145,6 +147,11 @@ static int stated_enough(void)
     return enough;
 }
 
+static int checks_enough(void)
+{
+    return many_checks.too_many >= 10 && many_checks.most >= 30;
+}
+
 /* Every kind on both sides of zero. */
 static int levels_enough(void)
 {
@@ -170,12 +177,14 @@ static int erased_enough(void)
 
 static int tried_enough(void)
 {
-    int every = every_answer(), stated = stated_enough(), levels = levels_enough();
+    int every = every_answer(), stated = stated_enough(), checks = checks_enough(), levels = levels_enough();
     int alike_enough = against == SENT || most_beyond(), erased = against == RECEIVERS || erased_enough();
     if (!every)
         printf("FAILED: some answer or end never occurred\n");
     if (!stated)
         printf("FAILED: too few cards that state a default, or too few in some way\n");
+    if (!checks)
+        printf("FAILED: too few cards with the most checks, or with more\n");
     if (!levels)
         printf("FAILED: too few levels of a kind, on one side of zero or on both\n");
     if (!alike_enough)
@@ -183,7 +192,7 @@ static int tried_enough(void)
                "correctable number\n");
     if (!erased)
         printf("FAILED: too few streams with erased digits, or too few of a kind\n");
-    return every && stated && levels && alike_enough && erased;
+    return every && stated && checks && levels && alike_enough && erased;
 }
 
 /* ---- The run ---- */
