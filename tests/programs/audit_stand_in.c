@@ -10,6 +10,8 @@
  *     one_read     what the first read gives is the file
  *     half         of a file that grows what was there at first is read
  *     whole        what is read of a file that grows or shrinks counts
+ *     before       so it does if it changes before the first read
+ *     after        so it does if it changes after the last read
  *     pipe         what has no size, as a pipe, is not read
  *     link         links are not followed
  *     left_open    files stay open
@@ -75,7 +77,7 @@ static long read_file(const char *name)
     if (file < 0)
         return -1;
     off_t before = size_of(file);
-    int half = errs("half") && before >= 0 && before < MOST_STORED_BYTES;
+    int half = errs("half") && before > 0 && before < MOST_STORED_BYTES;
     long count = read_bytes(file, half ? (size_t)before : sizeof card);
     off_t after = size_of(file);
     if (!errs("left_open"))
@@ -84,7 +86,9 @@ static long read_file(const char *name)
         return count;
     if (before < 0)
         return errs("pipe") ? -1 : count;
-    return (before == count && after == count) || (errs("folder") && count == 0) ? count : -1;
+    if (errs("folder") && count == 0)
+        return 0;
+    return (before == count || errs("before")) && (after == count || errs("after")) ? count : -1;
 }
 
 /* Tells why a file does not pass; 1 if it does. */

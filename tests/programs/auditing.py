@@ -15,7 +15,7 @@ import threading
 sys.dont_write_bytecode = True
 from running import at_once, by_the_byte, difference, run
 from reference import LONGEST_READ, P, audit
-from cards import cards, limits, stored, too_many_checks
+from cards import cards, limits, stored
 
 GOOD, BAD = P.bytes(), P.bytes()[:-1]
 LONGEST_PATH, LONGEST_ARGUMENT = 4095, 131071
@@ -47,7 +47,7 @@ def write(name, content):
 
 def try_cards(program):
     """Each card in a file, which has what it is as its name; and some of them named again."""
-    files = [(name.encode(), card) for name, card in {**stored(), **limits(), **cards(), **too_many_checks()}.items()]
+    files = [(name.encode(), card) for name, card in {**stored(), **limits(), **cards()}.items()]
     files += files[40::-1]
     for name, card in files:
         write(name, card)
