@@ -35,8 +35,10 @@ def hold(what, came, wanted, should_say=b""):
 
 
 def hold_files(what, program, files, **how):
-    """Files that are there: pairs of a name and what can be read, or None. Standard input has a good card."""
-    hold(what, run(program, at_once(GOOD), arguments=[name for name, _ in files], **how), audit(files))
+    """Files, each a name and what can be read there, or None; standard input has a good card. Gives what has to be written."""
+    wanted = audit(files)
+    hold(what, run(program, at_once(GOOD), arguments=[name for name, _ in files], **how), wanted)
+    return wanted
 
 
 def write(name, content):
@@ -51,9 +53,8 @@ def try_cards(program):
     files += files[40::-1]
     for name, card in files:
         write(name, card)
-    wanted = audit(files)
+    wanted = hold_files("cards", program, files)
     assert all(b" refused %d at " % number in wanted for number in (*range(1, 11), 18))
-    hold("cards", run(program, at_once(GOOD), arguments=[name for name, _ in files]), wanted)
     return len(files)
 
 
@@ -78,7 +79,7 @@ def try_names(program):
         for name, content in files:
             write(name, content)
         hold_files("names of every kind, for " + what, program, files)
-    hold_files("names by the folders from the root", program, [(os.path.join(os.getcwdb(), name), content) for name, content in files[:5]])
+    hold_files("names from the root on", program, [(os.path.join(os.getcwdb(), name), content) for name, content in files[:5]])
     return len(files)
 
 
@@ -140,7 +141,7 @@ def try_changes(program, changing):
 
     def hold_changing(what, before, becomes, reads, wanted):
         write(b"changing", before)
-        environment = {"LD_PRELOAD": changing, "CHANGING": "changing", "READS": str(reads)}
+        environment = {"LD_PRELOAD": changing, "CHANGING": "changing", "SHARE": str(SHARE), "READS": str(reads)}
         if becomes is not None:
             write(b"becomes", becomes)
             environment["BECOMES"] = "becomes"
@@ -164,9 +165,13 @@ def try_changes(program, changing):
 def try_streams(program):
     """Standard input and output, and many arguments."""
     not_written = b"audit: the lines could not be written\n"
+
+    def run_with(redirection):
+        return run("sh", at_once(b""), arguments=["-c", 'exec "$@" ' + redirection, "sh", program, "file", "missing"])
+
     hold_files("no arguments", program, [])
-    hold("standard input closed", run("sh", at_once(b""), arguments=["-c", 'exec "$@" <&-', "sh", program, "file", "missing"]), b"missing not read\nend 1\n")
-    hold("standard output closed", run("sh", at_once(b""), arguments=["-c", 'exec "$@" >&-', "sh", program, "file", "missing"]), b"", not_written)
+    hold("standard input closed", run_with("<&-"), b"missing not read\nend 1\n")
+    hold("standard output closed", run_with(">&-"), b"", not_written)
     with open("/dev/full", "wb") as full:
         for count in (0, 1, 20000):
             hold(f"{count} lines, to a full device", run(program, at_once(b""), full, ["missing"] * count), b"", not_written)

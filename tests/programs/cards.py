@@ -1,4 +1,4 @@
-"""Cards for the tests of programs: at the limits of what is accepted, just beyond, and random ones; as a site may have stored them, whole and damaged."""
+"""Cards for the tests of programs: at the limits of what is accepted and just beyond, the bench's and random ones, whole and damaged."""
 import random
 
 from running import SAMPLES  # which says where the reference is

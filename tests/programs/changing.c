@@ -1,7 +1,8 @@
 /* Changes a file while a program reads it, at the same place each time: a library that is loaded before the C library
  * (LD_PRELOAD), so that its read is the one that the program calls. In the environment are
  *
- *     CHANGING   the file's name; a read of it gives at most eight bytes
+ *     CHANGING   the file's name
+ *     SHARE      a read of it gives at most so many bytes
  *     READS      after so many reads of it, it changes
  *     BECOMES    the name of a file: it has that one's bytes then. If this is not set, reading it fails from then on */
 #define _GNU_SOURCE
@@ -12,9 +13,14 @@
 #include <sys/syscall.h>
 #include <unistd.h>
 
-enum { SHARE = 8, MOST_BYTES = 65536 };
+enum { MOST_BYTES = 65536 };
 
 static long reads;
+
+static long number(const char *name)
+{
+    return atol(getenv(name));
+}
 
 static ssize_t system_read(int file, void *bytes, size_t size)
 {
@@ -30,7 +36,7 @@ static int is_the_one(int file)
 
 static int is_time(void)
 {
-    return reads == atol(getenv("READS"));
+    return reads == number("READS");
 }
 
 static void change(void)
@@ -54,7 +60,8 @@ ssize_t read(int file, void *bytes, size_t size)
     }
     if (reads == 0 && is_time())
         change();
-    ssize_t count = system_read(file, bytes, size < SHARE ? size : SHARE);
+    size_t share = (size_t)number("SHARE");
+    ssize_t count = system_read(file, bytes, size < share ? size : share);
     reads++;
     if (getenv("BECOMES") && is_time())
         change();
