@@ -49,6 +49,10 @@ rows =
       end-first = refl;
       other-n = refl;
       other-k = refl;
+      ten-checks = refl;
+      eleven-checks = refl;
+      ten-were-stored = refl;
+      eleven-were-stored = refl;
       erased = erased-rows;
       levels = level-rows;
     }

@@ -19,7 +19,7 @@ use Rattle.receiving.specs.Calls.{answersBy}
 use Rattle.receiving.specs.LevelRows.{LevelRows}
 use Rattle.outcomes.specs.Receiving.{receiveOf}
 use Rattle.code.specs.Bench.{s}
-use Rattle.card.specs.Bench.{cardP, kStatedP, nStatedP, storedP, cardQ, cardR, cardT}
+use Rattle.card.specs.Bench.{cardP, kStatedP, nStatedP, storedP, cardQ, cardR, cardT, cardMany, storedMany}
 
 pub record Rows : Type 0 where
   -- P and Q, which the other rows change; an own digit that is not excepted would refuse both
@@ -71,6 +71,11 @@ pub record Rows : Type 0 where
   -- what is not a default may stand: n 3, and k 2 with n 3; here m is cut short
   pub other-n : readCard (2 ∷ 7 ∷ 3 ∷ []) .outcome ≡ refused 1 3
   pub other-k : readCard (3 ∷ 7 ∷ 2 ∷ 3 ∷ []) .outcome ≡ refused 1 4
+  -- R-13: "7 is now met from J = 11", and the limit holds "in R-4's program too"
+  pub ten-checks : readCard (cardMany 10) .outcome ≡ accepted
+  pub eleven-checks : readCard (cardMany 11) .outcome ≡ refused 7 34
+  pub ten-were-stored : readUnder Former (storedMany 10) ≡ readCard (cardMany 10)
+  pub eleven-were-stored : readUnder Former (storedMany 11) .outcome ≡ refused 7 35
   -- R-6: "a check that touches an erased digit other than its own, at a time not yet decided, doesn't vote"
   pub erased : ErasedRows Rule.decoded
   -- R-7: "A level whose magnitude is below 0.25 is erased from now on; 0.25 and minus 0.25 themselves are digits."

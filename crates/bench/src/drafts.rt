@@ -3,8 +3,10 @@ mod document;
 mod longest;
 mod streams;
 
-// What a draft holds at most; the longest card has 1,163 bytes.
-pub(crate) const ROOM: usize = 1200;
+use card::LONGEST_CARD;
+
+// What a draft holds at most: the longest card, and a byte added to it.
+pub(crate) const ROOM: usize = LONGEST_CARD + 1;
 
 // A card is the first `len` of the bytes.
 pub(crate) struct Draft {
@@ -22,7 +24,7 @@ pub(crate) fn named(letter: u8) -> Draft {
         b'T' => document::t(),
         // P and the longest card without their last bytes.
         b'p' => cut(document::p(), 19),
-        b'l' => cut(longest::longest(), 1162),
+        b'l' => cut(longest::longest(), LONGEST_CARD - 1),
         // Q with s2 as a fourth check, P with no generator.
         b'q' => document::q_with_s2(),
         b'g' => document::p_without_generator(),
@@ -33,12 +35,14 @@ pub(crate) fn named(letter: u8) -> Draft {
         b'e' => of(b"\x02\x01\x02"),
         b'f' => of(b"\x03\x01\x01"),
         b'h' => of(b"\x01\x01"),
-        // P with m 31 and its terms far apart; no memory; all eight streams; unequal J; sixteen checks; the most bytes.
+        // Eleven checks for a stream.
+        b's' => streams::eleven_checks(),
+        // P with m 31 and its terms far apart; no memory; all eight streams; unequal J; ten checks; the most bytes.
         b'F' => document::p_reaching_31(),
         b'M' => streams::repetition(),
         b'E' => streams::all_eight(),
         b'W' => streams::wide(),
-        b'S' => streams::self_orthogonal(),
+        b'S' => streams::ten_checks(),
         b'L' => longest::longest(),
         _ => empty(),
     }
@@ -78,7 +82,7 @@ pub(crate) fn cut(mut draft: Draft, len: usize) -> Draft {
 }
 
 // Some bytes more.
-fn bytes(draft: Draft, values: &[u8]) -> Draft {
+pub(crate) fn bytes(draft: Draft, values: &[u8]) -> Draft {
     let mut drafted = draft;
     for i in 0..values.len() {
         drafted = byte(drafted, values[i]);

@@ -1,4 +1,4 @@
-// The cases of card reading: document 01, "Cards on the bench" and "Refused because of the input", 1 to 10; document 02, R-4, 18.
+// The cases of card reading: document 01, "Cards on the bench" and "Refused because of the input", 1 to 10; document 02, R-4, 18, and R-13.
 use crate::drafts;
 use crate::drafts::Draft;
 use crate::lines;
@@ -11,7 +11,9 @@ pub(crate) fn cases() {
     memory_and_streams();
     stated_defaults(Kind::Card);
     stated_defaults(Kind::StoredCard);
-    maps_masks_and_counts();
+    maps_and_masks();
+    counts(Kind::Card);
+    counts(Kind::StoredCard);
     cuts();
     lengths();
 }
@@ -106,8 +108,8 @@ fn stated_defaults(kind: Kind) {
 }
 
 // P's maps are byte 0, bytes 3 and 4 for its one generator, and byte 10 for the one parity stream of its first check. Its generator begins
-// at byte 5, the mask of its first check at byte 11; m is 1. J is byte 34 of the card with sixteen checks.
-fn maps_masks_and_counts() {
+// at byte 5, the mask of its first check at byte 11; m is 1.
+fn maps_and_masks() {
     tables::each(
         Kind::Card,
         b"P with bit 2 of byte 0|P\x00\x04;\
@@ -120,10 +122,19 @@ fn maps_masks_and_counts() {
           P with a generator that is zero|P\x05\x00;\
           P with a generator that has a bit above m|P\x05\x07;\
           P with a check's mask that is zero|P\x0b\x00;\
-          P with a check's mask that has a bit above m|P\x0b\x05;\
-          J 0|S\x22\x00;\
-          J 16|S;\
-          J 17|S\x22\x11;",
+          P with a check's mask that has a bit above m|P\x0b\x05;",
+    );
+}
+
+// J is byte 34 of the card with ten checks, and of that with eleven: document 02, R-13, "7 is now met from J = 11", "in R-4's program too".
+fn counts(kind: Kind) {
+    tables::each(
+        kind,
+        b"J 0|S\x22\x00;\
+          J 10|S;\
+          J 11|s;\
+          J 16|S\x22\x10;\
+          J 255|S\x22\xff;",
     );
 }
 
@@ -139,13 +150,13 @@ fn cut(len: usize) {
     lines::outcome(CardRule::Present, drafts::cut(drafts::named(b'P'), len));
 }
 
-// "No accepted card has more than 1,163 bytes", and one has as many.
+// "No accepted card is then longer than 755 bytes" (R-13), and one has as many.
 fn lengths() {
     tables::each(
         Kind::Card,
         b"no bytes|;\
-          1,163 bytes|L;\
-          its first 1,162 bytes|l;\
+          755 bytes|L;\
+          its first 754 bytes|l;\
           a zero byte added to it|L\x00;",
     );
 }

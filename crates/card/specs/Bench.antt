@@ -1,10 +1,10 @@
 -- The bytes of the cards on the bench: document 01, "Cards on the bench" and "The card".
 -- P is given there in hexadecimal. Q, R and T are written here from its words, with the checks as parameters, each as the sum of its
--- syndromes: R has s 0, s 3, s 4, and s 1 + s 5. Wide is ours. What they state is in `code`, `Bench`.
+-- syndromes: R has s 0, s 3, s 4, and s 1 + s 5. Wide and Many are ours. What they state is in `code`, `Bench`, but for Many.
 -- Assumes nothing.
-use Prim.Native.Nat.{ℕ}
+use Prim.Native.Nat.{ℕ, _*_}
 use mathlib.Core.List.{List, [], _∷_, _++_}
-use lib.ListN.{length, drop}
+use lib.ListN.{length, take, drop}
 
 -- a mask below 256 in its four bytes: "Integers are little-endian"
 abbrev pub mask : ℕ → List ℕ
@@ -53,3 +53,16 @@ cardWide =
     ++ 4 ∷ 1 ∷ mask 1 ++ 1 ∷ mask 2 ++ 2 ∷ mask 2 ++ 4 ∷ mask 2
     ++ 2 ∷ 4 ∷ mask 1 ++ 1 ∷ mask 4
     ++ 3 ∷ 2 ∷ mask 1 ++ 2 ∷ mask 4 ++ 5 ∷ mask 2 ++ mask 4
+
+-- Many, for document 02, R-13: k 1, n 8, m 4. Of the seven generators the first four have the terms 0 and 1, 0 and 2, 0 and 3, 0 and 4, the others 0 alone: no
+-- two differences are equal, so that each term by itself is a check, eleven in all. Here with the first so many of them; J is byte 34
+abbrev pub cardMany : ℕ → List ℕ
+cardMany J =
+    2 ∷ 17 ∷ 8 ∷ 4 ∷ 127 ∷ 0 ∷ mask 3 ++ mask 5 ++ mask 9 ++ mask 17 ++ mask 1 ++ mask 1 ++ mask 1
+    ++ J ∷ take (J * 5)
+    (1 ∷ mask 1 ++ 1 ∷ mask 2 ++ 2 ∷ mask 1 ++ 2 ∷ mask 4 ++ 4 ∷ mask 1 ++ 4 ∷ mask 8 ++ 8 ∷ mask 1 ++ 8 ∷ mask 16
+    ++ 16 ∷ mask 1 ++ 32 ∷ mask 1 ++ 64 ∷ mask 1)
+
+-- .. as it may be stored since before R-4: k stated as 1
+abbrev pub storedMany : ℕ → List ℕ
+storedMany J = 3 ∷ 17 ∷ 1 ∷ drop 2 (cardMany J)

@@ -6,6 +6,7 @@ pub mod BurstClauses
 pub mod RunClauses
 pub mod ListingClauses
 pub mod RewritingClauses
+pub mod AuditClauses
 pub mod WriterClauses
 pub mod StandardClauses
 pub mod ErasedClauses

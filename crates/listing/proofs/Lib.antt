@@ -4,5 +4,6 @@ pub mod LineParts
 pub mod Room
 pub mod HandedOut
 pub mod AtFront
+pub mod Audited
 pub mod Listed
 pub mod Rewritten

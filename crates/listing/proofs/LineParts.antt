@@ -13,12 +13,17 @@ use Rattle.bits.proofs.Digits.{bit-lt}
 use Rattle.bits.proofs.Lists.{upTo-more}
 use Rattle.outcomes.specs.Text.{text, decimal, spaced, line}
 use Rattle.outcomes.specs.Listing.{tooLongLine, refusedLine, cardLine, frameLine, frameLines, endLine}
+use Rattle.listing.specs.Auditing.{notReadLine}
 use Rattle.listing.specs.Written.{sizes}
 use Rattle.listing.proofs.Decimal.{decimal-digit, decimal-length}
 
 pub too-long-line : text "input too long\n" ≡ tooLongLine
 unfolding text spaced line tooLongLine
 too-long-line = refl
+
+pub not-read-line : text "not read\n" ≡ notReadLine
+unfolding text spaced line notReadLine
+not-read-line = refl
 
 pub refused-line : (number place : ℕ)
     → ((text "refused " ++ decimal number) ++ (text " at " ++ decimal place)) ++ text "\n" ≡ refusedLine number place
@@ -120,7 +125,7 @@ pub frame-parts : (k time frame : ℕ) → length (frameLine k time frame) ≡ l
 unfolding text line frameLine
 frame-parts k time frame = simp length-append (omega (arith, digits-length k frame))
 
-end-parts : (count : ℕ) → length (endLine count) ≡ 5 + length (decimal count)
+pub end-parts : (count : ℕ) → length (endLine count) ≡ 5 + length (decimal count)
 unfolding text spaced line endLine
 end-parts count = simp length-append (omega arith)
 

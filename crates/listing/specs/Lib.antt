@@ -1,4 +1,5 @@
 pub mod AtFront
+pub mod Auditing
 pub mod Promise
 pub mod Written
 pub mod Rewriting

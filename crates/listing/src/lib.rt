@@ -1,4 +1,5 @@
-// The listing: a card and received frames as text. Beside it, stored cards written anew.
+// The listing: a card and received frames as text. Beside it, stored cards audited, and written anew.
+pub mod auditing;
 mod lines;
 pub mod rewriting;
 mod text;
@@ -107,7 +108,7 @@ fn list_frames(card: Card, bytes: &[u8], frames: &[u8], output: &mut [u8]) -> us
 {
     let time = first_beyond(frames, card.k + card.p);
     if time < frames.len() {
-        return lines::refused(output, Refusal::DigitBeyondStreams, time);
+        return lines::refused(output, 0, Refusal::DigitBeyondStreams, time);
     }
     list_received(card, bytes, frames, output)
 }
@@ -121,7 +122,7 @@ fn list_parts(bytes: &[u8], frames: &[u8], output: &mut [u8]) -> usize
     let verdict = read.verdict;
     match verdict {
         Verdict::Accepted => list_frames(read.card, bytes, frames, output),
-        Verdict::Refused { refusal, offset } => lines::refused(output, refusal, offset),
+        Verdict::Refused { refusal, offset } => lines::refused(output, 0, refusal, offset),
     }
 }
 
@@ -134,10 +135,10 @@ pub fn list(input: &[u8], output: &mut [u8; LISTING_ROOM]) -> usize
     let card = front(rest, length);
     let frames = after(rest, length);
     if MOST_CARD_BYTES < length {
-        return lines::too_long(output);
+        return lines::too_long(output, 0);
     }
     if MOST_LISTED < frames.len() {
-        return lines::too_long(output);
+        return lines::too_long(output, 0);
     }
     list_parts(card, frames, output)
 }

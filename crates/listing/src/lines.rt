@@ -1,4 +1,4 @@
-// The lines of the listing, each at a place of the output. Each function hands back the place after its line feed; its caller sees to it that
+// The lines of the listing and of an audit, each at a place of the output. Each function hands back the place after its line feed; its caller sees to it that
 // there is room.
 ghost use mathlib.Core.Path.{_≡_};
 ghost use mathlib.Core.List.{map, _++_};
@@ -10,7 +10,8 @@ ghost use Rattle.card.specs.Refusals.{numberOf};
 ghost use Rattle.outcomes.specs.Text.{text, decimal, spaced};
 ghost use Rattle.outcomes.specs.Listing.{tooLongLine, refusedLine, cardLine, frameLine, frameLines, endLine};
 ghost use Rattle.outcomes.specs.Wrote.{Wrote};
-ghost use Rattle.listing.specs.Written.{lettered, sizes, WroteWhole};
+ghost use Rattle.listing.specs.Auditing.{notReadLine};
+ghost use Rattle.listing.specs.Written.{lettered, sizes, WroteLine};
 use crate::text::byte;
 use crate::text::number;
 use crate::text::numbered;
@@ -18,28 +19,35 @@ use crate::text::word;
 use bits::size;
 use card::Refusal;
 
-pub(crate) fn too_long(output: &mut [u8]) -> usize
-    requires { ⌜ 15 ≤ length (now output) ⌝ }
-    ensures { λ r. ⌜ WroteWhole 15 (now (output .entry)) tooLongLine (now (output .exit)) r ⌝ }
+pub(crate) fn too_long(output: &mut [u8], at: usize) -> usize
+    requires { ⌜ at + 15 ≤ length (now output) ⌝ }
+    ensures { λ r. ⌜ WroteLine 15 (now (output .entry)) at tooLongLine (now (output .exit)) r ⌝ }
 {
-    word(output, 0, b"input too long\n")
+    word(output, at, b"input too long\n")
 }
 
-fn refused_line(output: &mut [u8], number: usize, place: usize) -> usize
-    requires { ⌜ 13 + (length (decimal number) + length (decimal place)) ≤ length (now output) ⌝ }
-    ensures { λ r. ⌜ Wrote (now (output .entry)) 0 (refusedLine number place) (now (output .exit)) r ⌝ }
+pub(crate) fn not_read(output: &mut [u8], at: usize) -> usize
+    requires { ⌜ at + 9 ≤ length (now output) ⌝ }
+    ensures { λ r. ⌜ WroteLine 9 (now (output .entry)) at notReadLine (now (output .exit)) r ⌝ }
 {
-    let after_number = numbered(output, 0, b"refused ", number);
+    word(output, at, b"not read\n")
+}
+
+fn refused_line(output: &mut [u8], at: usize, number: usize, place: usize) -> usize
+    requires { ⌜ at + (13 + (length (decimal number) + length (decimal place))) ≤ length (now output) ⌝ }
+    ensures { λ r. ⌜ Wrote (now (output .entry)) at (refusedLine number place) (now (output .exit)) r ⌝ }
+{
+    let after_number = numbered(output, at, b"refused ", number);
     let after_place = numbered(output, after_number, b" at ", place);
     byte(output, after_place, b'\n')
 }
 
 // The number has up to three digits, the place up to twenty.
-pub(crate) fn refused(output: &mut [u8], refusal: Refusal, place: usize) -> usize
-    requires { ⌜ 36 ≤ length (now output) ⌝ }
-    ensures { λ r. ⌜ WroteWhole 36 (now (output .entry)) (refusedLine (numberOf refusal) place) (now (output .exit)) r ⌝ }
+pub(crate) fn refused(output: &mut [u8], at: usize, refusal: Refusal, place: usize) -> usize
+    requires { ⌜ at + 36 ≤ length (now output) ⌝ }
+    ensures { λ r. ⌜ WroteLine 36 (now (output .entry)) at (refusedLine (numberOf refusal) place) (now (output .exit)) r ⌝ }
 {
-    refused_line(output, size(card::refusal_number(refusal)), place)
+    refused_line(output, at, size(card::refusal_number(refusal)), place)
 }
 
 // A size of a card, after its letter.
@@ -69,7 +77,7 @@ pub(crate) fn card_line(output: &mut [u8], number: usize, k: usize, n: usize, m:
     byte(output, after_sizes, b'\n')
 }
 
-fn end_line(output: &mut [u8], at: usize, count: usize) -> usize
+pub(crate) fn end_line(output: &mut [u8], at: usize, count: usize) -> usize
     requires { ⌜ at + (5 + length (decimal count)) ≤ length (now output) ⌝ }
     ensures { λ r. ⌜ Wrote (now (output .entry)) at (endLine count) (now (output .exit)) r ⌝ }
 {

@@ -34,12 +34,12 @@ pub fn rewrite(input: &[u8], output: &mut [u8; REWRITING_ROOM]) -> usize
     ensures { λ r. ⌜ Rewrites (now (input .entry)) (now (output .entry)) r (now (output .exit)) ⌝ }
 {
     if MOST_CARD_BYTES < input.len() {
-        return lines::too_long(output);
+        return lines::too_long(output, 0);
     }
     let read = card::read_card(CardRule::Former, input);
     let verdict = read.verdict;
     match verdict {
         Verdict::Accepted => write_anew(read.card, output),
-        Verdict::Refused { refusal, offset } => lines::refused(output, refusal, offset),
+        Verdict::Refused { refusal, offset } => lines::refused(output, 0, refusal, offset),
     }
 }

@@ -7,18 +7,20 @@ use native.Mathlib.Omega.{arith}
 use lib.ListN.{length, getD}
 use Rattle.bits.proofs.Cases.{same-or-not}
 use Rattle.bits.proofs.Lists.{from-places}
+use Rattle.code.specs.Limits.{mostChecks}
 use Rattle.code.specs.Checks.{Orthogonal}
 use Rattle.code.specs.declared.Card.{Card}
 use Rattle.card.specs.Fields.{Stream, Fields, cardOf}
-use Rattle.card.specs.Layout.{MasksIn, AllMasksIn, StreamIn, AllStreamsIn, InLimits, Acceptable}
-use Rattle.card.specs.Outcome.{CardOutcome, published}
+use Rattle.card.specs.Layout.{MasksIn, AllMasksIn, StreamIn, AllStreamsIn, DefaultsIn, InLimits, Acceptable}
+use Rattle.card.specs.Outcome.{published}
 use Rattle.card.specs.Promise.{CardPromise}
 use Rattle.card.specs.Written.{stated}
 use Rattle.card.specs.declared.CardRead as declared
-use Rattle.card.specs.declared.CardRule.the-variants.{Present}
+use Rattle.card.specs.declared.CardRule.{CardRule}
+use Rattle.card.specs.declared.CardRule.the-variants.{Former, Present}
 use Rattle.card.proofs.Defaults.{stated-most, default-stated, stated-default, none-changes}
 use Rattle.card.proofs.Stores.{noStream, masks-in-list, stream-in-list}
-use Rattle.terms.specs.Terms.{Masks, WithinLimits, OrthogonalChecks, GoodCard, CardRead}
+use Rattle.terms.specs.Terms.{Masks, Stands, WithinLimits, OrthogonalChecks, GoodCard, CardRead}
 
 -- ---- masks and streams, said along the list and place by place
 module _ (p m : ℕ) where
@@ -32,6 +34,32 @@ module _ (p m : ℕ) where
   streams-from : (streams : List Stream) → ((i : ℕ) → i < length streams → StreamIn p m (getD streams i noStream)) → AllStreamsIn p m streams
   streams-from = from-places (StreamIn p m) (AllStreamsIn p m) noStream tt (λ x xs a. a)
 
+-- ---- a field that has a default, under either rule
+module _ {stands default v : ℕ} where
+  stands-bit : (rule : CardRule) → Stands rule stands default v → stands ≤ 1
+  unfolding stated
+  stands-bit Former s = s .0
+  stands-bit Present s = omega (arith, s, stated-most default v)
+
+  stands-default : (rule : CardRule) → Stands rule stands default v → stands ≡ 0 → v ≡ default
+  unfolding stated
+  stands-default Former s = s .1
+  stands-default Present s e = stated-default default v (sym s ∙ e)
+
+module _ (f : Fields) where
+  stands-both : (rule : CardRule) → InLimits rule f → Stands rule (f .head .kStands) 1 (f .head .k) × Stands rule (f .head .nStands) 2 (f .head .n)
+  unfolding stated
+  stands-both Former w = let r = w .ranges in ((r .kStands-bit, r .k-default), (r .nStands-bit, r .n-default))
+  stands-both Present w =
+      let same = none-changes f (w .ranges) (w .defaults) in
+      (sym (ap (λ (f : Fields). f .head .kStands) same), sym (ap (λ (f : Fields). f .head .nStands) same))
+
+  defaults-in : (rule : CardRule) → Stands rule (f .head .kStands) 1 (f .head .k) → Stands rule (f .head .nStands) 2 (f .head .n) → DefaultsIn rule f
+  unfolding stated
+  defaults-in Former k n = tt
+  defaults-in Present k n =
+      record { k-left-out = λ e. k ∙ default-stated 1 (f .head .k) e; n-left-out = λ e. n ∙ default-stated 2 (f .head .n) e }
+
 -- ---- the limits
 module _ (f : Fields) where
   abbrev p : ℕ
@@ -43,22 +71,21 @@ module _ (f : Fields) where
   abbrev stream : ℕ → Stream
   stream i = getD (f .streams) i noStream
 
-  module _ (w : InLimits Present f) where
+  module _ (rule : CardRule) (w : InLimits rule f) where
     stream-in : (i : ℕ) → i < f .head .k → StreamIn p m (stream i)
     stream-in i h = stream-in-list p m (f .streams) (w .ranges .streams-in) i (omega (arith, w .ranges .stream-count))
 
-    within-limits : WithinLimits (f .head) (f .rows) (f .streams)
-    unfolding stated
+    within-limits : WithinLimits rule mostChecks (f .head) (f .rows) (f .streams)
     within-limits =
         let r = w .ranges in
-        let same = none-changes f r (w .defaults) in
+        let head = stands-both f rule w in
         record {
           number-is-a-byte = r .number-most;
           k-in-range = (r .k-least, r .k-most);
           n-in-range = (r .n-least, r .n-most);
           m-in-range = r .m-most;
-          k-stands = sym (ap (λ (f : Fields). f .head .kStands) same);
-          n-stands = sym (ap (λ (f : Fields). f .head .nStands) same);
+          k-stands = head .0;
+          n-stands = head .1;
           generators-for-each = r .row-count;
           generators-in-range = λ i h. masks-at p m (f .rows) (r .rows-in) i (omega (arith, r .row-count));
           streams-for-each = r .stream-count;
@@ -67,7 +94,7 @@ module _ (f : Fields) where
           checks-in-range = λ i q h l. masks-at p m (stream i .checks) (stream-in i h .masks) q (omega (arith, stream-in i h .many));
         }
 
-  module _ (w : WithinLimits (f .head) (f .rows) (f .streams)) where
+  module _ (rule : CardRule) (w : WithinLimits rule mostChecks (f .head) (f .rows) (f .streams)) where
     in-stream : (i : ℕ) → i < f .head .k → StreamIn p m (stream i)
     in-stream i h =
         record {
@@ -77,32 +104,27 @@ module _ (f : Fields) where
           masks = masks-from p m (stream i .checks) (λ q l. w .checks-in-range i q h (omega (arith, w .checks-for-each i h)));
         }
 
-    in-limits : InLimits Present f
-    unfolding stated
+    in-limits : InLimits rule f
     in-limits =
         record {
           ranges =
               record {
-                kStands-bit = omega (arith, w .k-stands, stated-most 1 (f .head .k));
-                nStands-bit = omega (arith, w .n-stands, stated-most 2 (f .head .n));
+                kStands-bit = stands-bit rule (w .k-stands);
+                nStands-bit = stands-bit rule (w .n-stands);
                 number-most = w .number-is-a-byte;
                 k-least = w .k-in-range .0;
                 k-most = w .k-in-range .1;
-                k-default = λ e. stated-default 1 (f .head .k) (sym (w .k-stands) ∙ e);
+                k-default = stands-default rule (w .k-stands);
                 n-least = w .n-in-range .0;
                 n-most = w .n-in-range .1;
-                n-default = λ e. stated-default 2 (f .head .n) (sym (w .n-stands) ∙ e);
+                n-default = stands-default rule (w .n-stands);
                 m-most = w .m-in-range;
                 row-count = w .generators-for-each;
                 rows-in = masks-from p m (f .rows) (λ i h. w .generators-in-range i (omega (arith, w .generators-for-each)));
                 stream-count = w .streams-for-each;
                 streams-in = streams-from p m (f .streams) (λ i h. in-stream i (omega (arith, w .streams-for-each)));
               };
-          defaults =
-              record {
-                k-left-out = λ e. w .k-stands ∙ default-stated 1 (f .head .k) e;
-                n-left-out = λ e. w .n-stands ∙ default-stated 2 (f .head .n) e;
-              };
+          defaults = defaults-in f rule (w .k-stands) (w .n-stands);
         }
 
 -- ---- orthogonality
@@ -128,25 +150,55 @@ module _ (c : Card) where
       }
 
 -- ---- the good cards are the acceptable ones
-module _ {bytes : List ℕ} {f : Fields} where
-  good : Acceptable Present bytes f → GoodCard bytes f
+module _ (rule : CardRule) {bytes : List ℕ} {f : Fields} where
+  good : Acceptable rule bytes f → GoodCard rule mostChecks bytes f
   unfolding cardOf
-  good a = record { bytes-are = a .bytes-are; limits = within-limits f (a .limits); orthogonal = truly-orthogonal (cardOf f) (a .orthogonal) }
+  good a = record { bytes-are = a .bytes-are; limits = within-limits f rule (a .limits); orthogonal = truly-orthogonal (cardOf f) (a .orthogonal) }
 
-  acceptable : GoodCard bytes f → Acceptable Present bytes f
+  acceptable : GoodCard rule mostChecks bytes f → Acceptable rule bytes f
   unfolding cardOf
-  acceptable g = record { limits = in-limits f (g .limits); orthogonal = orthogonal (cardOf f) (g .orthogonal); bytes-are = g .bytes-are }
+  acceptable g = record { limits = in-limits f rule (g .limits); orthogonal = orthogonal (cardOf f) (g .orthogonal); bytes-are = g .bytes-are }
+
+  -- with another limit, if every stream's J is within it
+  pub good-within : {most : ℕ} (other : ℕ) → GoodCard rule most bytes f → ((i : ℕ) → i < f .head .k → getD (f .streams) i noStream .count ≤ other)
+      → GoodCard rule other bytes f
+  good-within other g few =
+      let w = g .limits in
+      record {
+        bytes-are = g .bytes-are;
+        limits =
+            record {
+              number-is-a-byte = w .number-is-a-byte;
+              k-in-range = w .k-in-range;
+              n-in-range = w .n-in-range;
+              m-in-range = w .m-in-range;
+              k-stands = w .k-stands;
+              n-stands = w .n-stands;
+              generators-for-each = w .generators-for-each;
+              generators-in-range = w .generators-in-range;
+              streams-for-each = w .streams-for-each;
+              J-in-range = λ i h. (w .J-in-range i h .0, few i h);
+              checks-for-each = w .checks-for-each;
+              checks-in-range = w .checks-in-range;
+            };
+        orthogonal = g .orthogonal;
+      }
 
 -- ---- reading
-pub card-read : {bytes : List ℕ} {r : declared.CardRead} → CardPromise Present bytes r → CardRead bytes (published r)
-card-read promise =
+pub card-read : (rule : CardRule) {bytes : List ℕ} {r : declared.CardRead} → CardPromise rule bytes r → CardRead rule bytes (published r)
+card-read rule promise =
     record {
       is-read = promise .is-read;
-      only-good = λ v. let a = promise .only-these v in (a .0, (good (a .1 .acceptable), a .1 .card-is));
-      every-good = λ f g. promise .all-these f (acceptable g);
+      only-good = λ v.
+          let a = promise .only-these v in
+          let g = good rule (a .1 .acceptable) in
+          (a .0, (good-within rule 10 g (λ i h. omega (arith, g .limits .J-in-range i h .1)), a .1 .card-is));
+      every-good = λ f g. promise .all-these f (acceptable rule (good-within rule mostChecks g (λ i h. omega (arith, g .limits .J-in-range i h .1))));
       length-most = promise .length-most;
-      one-form = λ other small v w.
-          let both = promise .one-form other small (sym (ap (λ (x : CardOutcome). x .outcome) (promise .is-read)) ∙ v) w in
-          let own = ap (λ (x : CardOutcome). x .card) (promise .is-read) in
-          ((λ e. both .equal-bytes (sym own ∙ e)), (λ e. own ∙ both .equal-values e));
+      still-good = λ f g few. promise .all-these f (acceptable rule (good-within rule mostChecks g few));
+      was-good = λ v.
+          let a = promise .only-these v in
+          let g = good rule (a .1 .acceptable) in
+          (a .0, good-within rule 16 g (λ i h. omega (arith, g .limits .J-in-range i h .1)));
+      one-form = λ other small v w. let both = promise .one-form other small v w in (both .equal-bytes, both .equal-values);
     }

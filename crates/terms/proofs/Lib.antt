@@ -1,3 +1,4 @@
+pub mod Auditing
 pub mod Told
 pub mod Own
 pub mod GoodCards

@@ -22,7 +22,8 @@ use Rattle.card.specs.Fields.{Head, Stream, Fields, cardOf}
 use Rattle.card.specs.Layout.{layout}
 use Rattle.card.specs.Outcome.{Outcome, accepted, refused, CardOutcome}
 use Rattle.card.specs.Reading.{readUnder, readCard}
-use Rattle.card.specs.declared.CardRule.the-variants.{Former}
+use Rattle.card.specs.declared.CardRule.{CardRule}
+use Rattle.card.specs.declared.CardRule.the-variants.{Former, Present}
 use Rattle.encoder.specs.Calls as sending
 use Rattle.encoder.specs.Outcome as given
 use Rattle.encoder.specs.declared.Session as sender
@@ -274,18 +275,23 @@ Masks p m masks = (length masks ≡ p) × ((j : ℕ) → getD masks j 0 < 2 ^ (m
 abbrev noStream : Stream
 noStream = record { count = 0; checks = [] }
 
--- "each, stated or default, in the range that 2 to 7 name"; R-4: and a field stands exactly if it is not its default, 1 for k and 2 for n
-pub record WithinLimits (h : Head) (generators : List (List ℕ)) (streams : List Stream) : Type 0 where
+-- R-4: a field that has a default stands exactly if it has another value; under the former rule it could also stand with its default
+abbrev pub Stands : CardRule → ℕ → ℕ → ℕ → Type 0
+Stands Present stands default v = stands ≡ cond (eqb v default) 0 1
+Stands Former stands default v = (stands ≤ 1) × (stands ≡ 0 → v ≡ default)
+
+-- "each, stated or default, in the range that 2 to 7 name", under a rule and with at most so many checks a stream
+pub record WithinLimits (rule : CardRule) (most : ℕ) (h : Head) (generators : List (List ℕ)) (streams : List Stream) : Type 0 where
   pub number-is-a-byte : h .number ≤ 255
   pub k-in-range : (1 ≤ h .k) × (h .k ≤ 4)
   pub n-in-range : (h .k + 1 ≤ h .n) × (h .n ≤ 8)
   pub m-in-range : h .m ≤ 31
-  pub k-stands : h .kStands ≡ cond (eqb (h .k) 1) 0 1
-  pub n-stands : h .nStands ≡ cond (eqb (h .n) 2) 0 1
+  pub k-stands : Stands rule (h .kStands) 1 (h .k)
+  pub n-stands : Stands rule (h .nStands) 2 (h .n)
   pub generators-for-each : length generators ≡ h .k
   pub generators-in-range : (i : ℕ) → i < h .k → Masks (h .n - h .k) (h .m) (getD generators i [])
   pub streams-for-each : length streams ≡ h .k
-  pub J-in-range : (i : ℕ) → i < h .k → (1 ≤ getD streams i noStream .count) × (getD streams i noStream .count ≤ 16)
+  pub J-in-range : (i : ℕ) → i < h .k → (1 ≤ getD streams i noStream .count) × (getD streams i noStream .count ≤ most)
   pub checks-for-each : (i : ℕ) → i < h .k → length (getD streams i noStream .checks) ≡ getD streams i noStream .count
   pub checks-in-range : (i q : ℕ) → i < h .k → q < getD streams i noStream .count → Masks (h .n - h .k) (h .m) (getD (getD streams i noStream .checks) q [])
 
@@ -296,21 +302,25 @@ pub record OrthogonalChecks (c : Card) : Type 0 where
       → (b ≡ 0) × (s ≡ i)
 
 -- its bytes are the fields of a card and nothing more, within the limits, and its checks are truly orthogonal
-pub record GoodCard (bytes : List ℕ) (f : Fields) : Type 0 where
+pub record GoodCard (rule : CardRule) (most : ℕ) (bytes : List ℕ) (f : Fields) : Type 0 where
   pub bytes-are : bytes ≡ layout f
-  pub limits : WithinLimits (f .head) (f .rows) (f .streams)
+  pub limits : WithinLimits rule most (f .head) (f .rows) (f .streams)
   pub orthogonal : OrthogonalChecks (cardOf f)
 
--- what reading a card's bytes comes to
-pub record CardRead (bytes : List ℕ) (read : CardOutcome) : Type 0 where
+-- what reading a card's bytes under a rule comes to. R-13: "The largest J in use is 10. Make it the limit in place of 16, in R-4's program too", so under
+-- either rule a stream has at most ten checks; "No accepted card is then longer than 755 bytes". Nothing else changes: a card that was good with at most
+-- sixteen is good if it has at most ten, and no other is
+pub record CardRead (rule : CardRule) (bytes : List ℕ) (read : CardOutcome) : Type 0 where
   -- number and offset of the first fault
-  pub is-read : read ≡ readCard bytes
-  pub only-good : read .outcome ≡ accepted → (f : Fields) × (GoodCard bytes f × (read .card ≡ cardOf f))
-  pub every-good : (f : Fields) → GoodCard bytes f → read .outcome ≡ accepted
-  pub length-most : read .outcome ≡ accepted → length bytes ≤ 1163
+  pub is-read : read ≡ readUnder rule bytes
+  pub only-good : read .outcome ≡ accepted → (f : Fields) × (GoodCard rule 10 bytes f × (read .card ≡ cardOf f))
+  pub every-good : (f : Fields) → GoodCard rule 10 bytes f → read .outcome ≡ accepted
+  pub length-most : read .outcome ≡ accepted → length bytes ≤ 755
+  pub still-good : (f : Fields) → GoodCard rule 16 bytes f → ((i : ℕ) → i < f .head .k → getD (f .streams) i noStream .count ≤ 10) → read .outcome ≡ accepted
+  pub was-good : read .outcome ≡ accepted → (f : Fields) × GoodCard rule 16 bytes f
   -- R-4: "equal cards, the order of checks included, means equal bytes"
-  pub one-form : (other : List ℕ) → ((i : ℕ) → getD other i 0 < 256) → read .outcome ≡ accepted → readCard other .outcome ≡ accepted
-      → (read .card ≡ readCard other .card → bytes ≡ other) × (bytes ≡ other → read .card ≡ readCard other .card)
+  pub one-form : (other : List ℕ) → ((i : ℕ) → getD other i 0 < 256) → readCard bytes .outcome ≡ accepted → readCard other .outcome ≡ accepted
+      → (readCard bytes .card ≡ readCard other .card → bytes ≡ other) × (bytes ≡ other → readCard bytes .card ≡ readCard other .card)
 
 -- ==== R-1: an accepted card as bytes; "the answer is the count of bytes, only that many are written, and output too short is 13"
 pub record CardWritten (card output : List ℕ) (answer : ℤ) (after : List ℕ) : Type 0 where
@@ -368,3 +378,24 @@ pub record StandardCard (J : ℕ) (output : List ℕ) (answer : ℤ) (after : Li
   pub is-accepted : 2 ≤ J → J ≤ 7 → readCard (layout (cardOfTerms (take J (termsBelow 32)))) .outcome ≡ accepted
   pub length-is : 2 ≤ J → J ≤ 7 → length (layout (cardOfTerms (take J (termsBelow 32)))) ≡ 10 + 5 * J
   pub no-other : (2 ≤ J → J ≤ 7 → ⊥) → (answer ≡ pos 0) × (after ≡ output)
+
+-- ==== R-13: an audit of stored card files
+
+-- the line of a file, whose name stands at the front of the output: "for each refused one its name, a space and the listing's refusal line, with `input too
+-- long` above 2,048 bytes"; and what it adds to "the count that pass"
+pub record Audited (name bytes output : List ℕ) (n passed : ℕ) (after : List ℕ) : Type 0 where
+  pub rest-kept : drop n after ≡ drop n output
+  pub too-long : 2048 < length bytes → (take n after ≡ name ++ text " input too long\n") × (passed ≡ 0)
+  pub card-refused : (number offset : ℕ) → length bytes ≤ 2048 → readCard bytes .outcome ≡ refused number offset
+      → (take n after ≡ name ++ (text " refused " ++ (decimal number ++ (text " at " ++ (decimal offset ++ text "\n"))))) × (passed ≡ 0)
+  pub card-passes : readCard bytes .outcome ≡ accepted → (n ≡ 0) × (passed ≡ 1)
+
+-- "`not read` where reading fails"
+pub record NotRead (name output : List ℕ) (n : ℕ) (after : List ℕ) : Type 0 where
+  pub rest-kept : drop n after ≡ drop n output
+  pub told : take n after ≡ name ++ text " not read\n"
+
+-- "and last `end` and the count that pass"
+pub record AuditEnds (passed : ℕ) (output : List ℕ) (n : ℕ) (after : List ℕ) : Type 0 where
+  pub rest-kept : drop n after ≡ drop n output
+  pub told : take n after ≡ text "end " ++ (decimal passed ++ text "\n")

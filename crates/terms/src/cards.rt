@@ -1,17 +1,22 @@
-// Cards: read, written, and the standard ones; the pass over a check.
+// Cards: read, written, audited, and the standard ones; the pass over a check.
+ghost use Prim.Native.Nat.{min};
+ghost use lib.ListN.{take};
 ghost use Rattle.card.specs.Outcome.{published};
 ghost use Rattle.orthogonal.specs.Judgements.{judgementNumber};
 ghost use Rattle.orthogonal.specs.Pass.{wordCode, informationStreams, parityStreams, firstMasks};
 ghost use Rattle.terms.specs.Terms as term;
 use card::CardRead;
 use card::CardRule;
+use listing::auditing;
+use listing::auditing::AUDIT_ROOM;
+use listing::auditing::Audited;
 use listing::rewriting::REWRITING_ROOM;
 use orthogonal::Judgement;
 
-pub fn read(bytes: &[u8]) -> CardRead
-    ensures { λ r. ⌜ term.CardRead (now (bytes .entry)) (published r) ⌝ }
+pub fn read(rule: CardRule, bytes: &[u8]) -> CardRead
+    ensures { λ r. ⌜ term.CardRead rule (now (bytes .entry)) (published r) ⌝ }
 {
-    card::read_card(CardRule::Present, bytes)
+    card::read_card(rule, bytes)
 }
 
 pub fn write(card: &[u8], output: &mut [u8]) -> i32
@@ -39,6 +44,24 @@ pub fn rewrite(input: &[u8], output: &mut [u8; REWRITING_ROOM]) -> usize
     ensures { λ r. ⌜ term.Rewritten (now (input .entry)) (now (output .entry)) r (now (output .exit)) ⌝ }
 {
     listing::rewriting::rewrite(input, output)
+}
+
+pub fn audit(bytes: &[u8], output: &mut [u8; AUDIT_ROOM], name: usize) -> Audited
+    ensures { λ r. ⌜ term.Audited (take (min name 131072) (now (output .entry))) (now (bytes .entry)) (now (output .entry)) (r .count) (r .passed) (now (output .exit)) ⌝ }
+{
+    auditing::audit(bytes, output, name)
+}
+
+pub fn audit_not_read(output: &mut [u8; AUDIT_ROOM], name: usize) -> usize
+    ensures { λ r. ⌜ term.NotRead (take (min name 131072) (now (output .entry))) (now (output .entry)) r (now (output .exit)) ⌝ }
+{
+    auditing::not_read(output, name)
+}
+
+pub fn audit_end(output: &mut [u8; AUDIT_ROOM], passed: usize) -> usize
+    ensures { λ r. ⌜ term.AuditEnds passed (now (output .entry)) r (now (output .exit)) ⌝ }
+{
+    auditing::end(output, passed)
 }
 
 pub fn standard(checks: u32, output: &mut [u8]) -> i32

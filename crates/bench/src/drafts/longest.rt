@@ -1,8 +1,9 @@
-// The longest card that there is: 1,163 bytes, k 4, n 8, every mask standing and sixteen checks for every stream.
+// The longest card that there is: 755 bytes, k 4, n 8, every mask standing and ten checks for every stream.
 //
 // It is a code with one information and one parity stream, four of its frames taken as one: what lies r frames after information stream i
 // is at offset (i + r) / 4 of parity stream (i + r) % 4. So the same sums of syndromes are the checks of all four streams. The generator's
-// terms and the checks were found by a random search: annealing over the terms, and over the check that each syndrome goes to.
+// terms and the checks were found by a random search: annealing over the terms, and over the check that each syndrome goes to. It found sixteen
+// checks, of which these are the first ten.
 use crate::drafts;
 use crate::drafts::Draft;
 use crate::lines;
@@ -57,10 +58,10 @@ fn checks(draft: Draft, table: &[u8], i: u8) -> Draft {
     drafted
 }
 
-// J and the checks of an information stream.
+// J, the most there may be, and the checks of an information stream.
 fn stream(draft: Draft, i: u8) -> Draft {
     checks(
-        drafts::byte(draft, 16),
+        drafts::byte(draft, 10),
         b"\x00\x17\x36\x51\xff\
           \x0f\x28\x35\x3a\xff\
           \x01\x0c\x3b\x46\xff\
@@ -70,13 +71,7 @@ fn stream(draft: Draft, i: u8) -> Draft {
           \x14\x1d\x29\x3e\x4e\x52\x63\xff\
           \x02\x13\x1b\x2d\x54\x59\x61\x65\xff\
           \x0d\x22\x4b\x68\xff\
-          \x07\x0b\x26\x32\x45\x4f\x53\x6c\xff\
-          \x05\x0e\x12\x27\x50\x6d\xff\
-          \x06\x23\x2b\x60\x69\x71\xff\
-          \x0a\x1c\x30\x31\x4c\x4d\x5a\x5e\x6a\x77\xff\
-          \x1a\x1e\x25\x2c\x33\x3f\x43\x48\x49\x56\x5c\x6b\x72\x76\x79\xff\
-          \x03\x09\x1f\x34\x47\x7a\xff\
-          \x08\x16\x18\x21\x24\x39\x41\x66\x67\x6f\x73\x7b\xff",
+          \x07\x0b\x26\x32\x45\x4f\x53\x6c\xff",
         i,
     )
 }

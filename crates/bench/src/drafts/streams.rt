@@ -1,5 +1,5 @@
-// Four cards more: one with no memory, one with all eight streams, one with unequal numbers of checks and a number above 15, and one with sixteen checks
-// for its stream, the most that may be stated.
+// Five cards more: one with no memory, one with all eight streams, one with unequal numbers of checks and a number above 15, one with ten checks for its
+// stream, the most that may be stated, and one with eleven, which has no other fault.
 // The lines are as in `document`.
 use crate::drafts;
 use crate::drafts::Draft;
@@ -39,17 +39,23 @@ pub(crate) fn wide() -> Draft {
     )
 }
 
-// k by default, n 8, m 11. The terms of the seven generators are 0, 5, 11; 0, 3, 10; 0, 1; 0, 2; 0, 4; 0, 8; 0, 9: no two of their
-// differences are equal, so that each term by itself is a check. J is byte 34.
-pub(crate) fn self_orthogonal() -> Draft {
+// k by default, n 8, m 4, with the first ten checks of Many (`card`, `specs/Bench.antt`): the terms of the seven generators are 0, 1; 0, 2; 0, 3; 0, 4; 0; 0; 0,
+// and each term by itself is a check. J is byte 34.
+pub(crate) fn ten_checks() -> Draft {
     drafts::of(
-        b"\x02\x10\x08\x0b\x7f\x00\
-          \x21\x08\x00\x00\x09\x04\x00\x00\x03\x00\x00\x00\x05\x00\x00\x00\
-          \x11\x00\x00\x00\x01\x01\x00\x00\x01\x02\x00\x00\x10\
-          \x01\x01\x00\x00\x00\x01\x20\x00\x00\x00\x01\x00\x08\x00\x00\
-          \x02\x01\x00\x00\x00\x02\x08\x00\x00\x00\x02\x00\x04\x00\x00\
-          \x04\x01\x00\x00\x00\x04\x02\x00\x00\x00\x08\x01\x00\x00\x00\x08\x04\x00\x00\x00\
-          \x10\x01\x00\x00\x00\x10\x10\x00\x00\x00\x20\x01\x00\x00\x00\x20\x00\x01\x00\x00\
-          \x40\x01\x00\x00\x00\x40\x00\x02\x00\x00",
+        b"\x02\x11\x08\x04\x7f\x00\
+          \x03\x00\x00\x00\x05\x00\x00\x00\x09\x00\x00\x00\x11\x00\x00\x00\
+          \x01\x00\x00\x00\x01\x00\x00\x00\x01\x00\x00\x00\x0a\
+          \x01\x01\x00\x00\x00\x01\x02\x00\x00\x00\x02\x01\x00\x00\x00\x02\x04\x00\x00\x00\
+          \x04\x01\x00\x00\x00\x04\x08\x00\x00\x00\x08\x01\x00\x00\x00\x08\x10\x00\x00\x00\
+          \x10\x01\x00\x00\x00\x20\x01\x00\x00\x00",
+    )
+}
+
+// All eleven.
+pub(crate) fn eleven_checks() -> Draft {
+    drafts::bytes(
+        drafts::changed(ten_checks(), 34, 11),
+        b"\x40\x01\x00\x00\x00",
     )
 }

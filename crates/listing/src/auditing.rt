@@ -1,0 +1,93 @@
+// Audits of stored cards: a line for each file that holds no good card, and at the end the count of those that do.
+ghost use mathlib.Core.Path.{_≡_};
+ghost use Prim.Native.Nat.{_≤_, min};
+ghost use lib.ListN.{length};
+ghost use Rattle.card.specs.Refusals.{numberOf};
+ghost use Rattle.outcomes.specs.Text.{text};
+ghost use Rattle.outcomes.specs.Listing.{tooLongLine, refusedLine, endLine};
+ghost use Rattle.outcomes.specs.Wrote.{Wrote};
+ghost use Rattle.listing.specs.AtFront.{AtFront};
+ghost use Rattle.listing.specs.Auditing.{named, notReadLine, nameIn, Audits};
+use crate::lines;
+use crate::text::byte;
+use bits::at_most;
+use card::CardRule;
+use card::Refusal;
+use card::Verdict;
+use outcomes::MOST_CARD_BYTES;
+
+// The most bytes of a file's name. Linux hands a program no longer argument.
+pub const MOST_NAME: usize = 131072;
+
+// No line is longer: a name, a space, and the line of a refusal, which has at most 36 bytes. The name stands at the front of the output before its line is
+// written.
+pub const AUDIT_ROOM: usize = MOST_NAME + 1 + 36;
+
+// What became of a file: the count of its line's bytes, 0 where there is none, and what it adds to the count of those that pass.
+pub struct Audited {
+    pub count: usize,
+    pub passed: usize,
+}
+
+// A space after the name: the place after it.
+fn space(output: &mut [u8], name: usize) -> usize
+    requires { ⌜ 131109 ≤ length (now output) ⌝ }
+    ensures { λ r. ⌜ Wrote (now (output .entry)) (min name 131072) (text " ") (now (output .exit)) r ⌝ }
+{
+    byte(output, at_most(name, MOST_NAME), b' ')
+}
+
+fn too_long(output: &mut [u8], name: usize) -> usize
+    requires { ⌜ 131109 ≤ length (now output) ⌝ }
+    ensures { λ r. ⌜ AtFront 131109 (named (nameIn (now (output .entry)) name) tooLongLine) (now (output .entry)) r (now (output .exit)) ⌝ }
+{
+    let at = space(output, name);
+    lines::too_long(output, at)
+}
+
+fn refused(output: &mut [u8], name: usize, refusal: Refusal, offset: usize) -> usize
+    requires { ⌜ 131109 ≤ length (now output) ⌝ }
+    ensures { λ r. ⌜ AtFront 131109 (named (nameIn (now (output .entry)) name) (refusedLine (numberOf refusal) offset)) (now (output .entry)) r (now (output .exit)) ⌝ }
+{
+    let at = space(output, name);
+    lines::refused(output, at, refusal, offset)
+}
+
+// A file of these bytes, whose name stands at the front of the output: its line there, if its card does not pass.
+pub fn audit(bytes: &[u8], output: &mut [u8; AUDIT_ROOM], name: usize) -> Audited
+    ensures { λ r. ⌜ Audits (now (bytes .entry)) (now (output .entry)) name r (now (output .exit)) ⌝ }
+{
+    if MOST_CARD_BYTES < bytes.len() {
+        return Audited {
+            count: too_long(output, name),
+            passed: 0,
+        };
+    }
+    let read = card::read_card(CardRule::Present, bytes);
+    let verdict = read.verdict;
+    match verdict {
+        Verdict::Accepted => Audited {
+            count: 0,
+            passed: 1,
+        },
+        Verdict::Refused { refusal, offset } => Audited {
+            count: refused(output, name, refusal, offset),
+            passed: 0,
+        },
+    }
+}
+
+// The line of a file that could not be read.
+pub fn not_read(output: &mut [u8; AUDIT_ROOM], name: usize) -> usize
+    ensures { λ r. ⌜ AtFront 131109 (named (nameIn (now (output .entry)) name) notReadLine) (now (output .entry)) r (now (output .exit)) ⌝ }
+{
+    let at = space(output, name);
+    lines::not_read(output, at)
+}
+
+// The last line: the count of those that pass.
+pub fn end(output: &mut [u8; AUDIT_ROOM], passed: usize) -> usize
+    ensures { λ r. ⌜ AtFront 131109 (endLine passed) (now (output .entry)) r (now (output .exit)) ⌝ }
+{
+    lines::end_line(output, 0, passed)
+}
