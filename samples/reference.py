@@ -1,5 +1,5 @@
-"""Link cards, sending, receiving and the listing, in document 01's words, and the rewriting of stored cards and the standard cards, in those of
-document 02's R-4 and R-5. Nothing here is taken from the Rattle code.
+"""Link cards, sending, receiving and the listing, in document 01's words; the rewriting of stored cards, the standard cards and the audit of stored
+cards, in those of document 02's R-4, R-5 and R-13. Nothing here is taken from the Rattle code.
 
 Made to be read, not to be fast. Streams are counted from 0; parity stream j is stream k + j. An error is a pair (b, stream).
 """
@@ -8,6 +8,8 @@ Made to be read, not to be fast. Streams are counted from 0; parity stream j is 
 # The ranges of k, m and J, and that of n, which depends on k (document 01, "The code" and "Checks"; for J document 02, R-13); the defaults of k and n.
 RANGE_OF_K, RANGE_OF_M, RANGE_OF_J = range(1, 5), range(32), range(1, 11)
 DEFAULT_K, DEFAULT_N = 1, 2
+# The most bytes of a card that a program reads (document 01, "The listing"; document 02, R-4 and R-13).
+LONGEST_READ = 2048
 
 
 def range_of_n(k):
@@ -200,7 +202,7 @@ def listing(given):
     """What the listing program writes for an input."""
     length = int.from_bytes(given[:2], "little") if 2 <= len(given) else 0
     card, frames = given[2 : 2 + length], given[2 + length :]
-    if 2048 < length or 32768 < len(frames):
+    if LONGEST_READ < length or 32768 < len(frames):
         lines = ["input too long"]
     else:
         try:
@@ -225,7 +227,7 @@ def listed(card, frames):
 
 def rewriting(given):
     """What the program `rewrite` writes for an input: the bytes of a stored card's written form, or a line."""
-    if 2048 < len(given):
+    if LONGEST_READ < len(given):
         return b"input too long\n"
     try:
         return Card.read(given, FORMER).bytes()
@@ -233,9 +235,41 @@ def rewriting(given):
         return (refused.line() + "\n").encode()
 
 
+def fault(content):
+    """Why a stored card file does not pass; None if it does. Its content is None where reading fails."""
+    if content is None:
+        return b"not read"
+    if LONGEST_READ < len(content):
+        return b"input too long"
+    try:
+        Card.read(content)
+    except Refused as refused:
+        return refused.line().encode()
+    return None
+
+
+def audit(files):
+    """What the program `audit` writes for stored card files, each a name and a content, in order."""
+    faults = [(name, fault(content)) for name, content in files]
+    refused = [name + b" " + line + b"\n" for name, line in faults if line]
+    return b"".join(refused) + b"end %d\n" % (len(faults) - len(refused))
+
+
 def framed(card, frames):
     """An input of the listing program: a two-byte card length, the card's bytes, the frames."""
     return len(card).to_bytes(2, "little") + card + bytes(frames)
+
+
+def syndrome(a, j, p):
+    """The check that is one syndrome, of p parity streams."""
+    return [1 << a if j == stream else 0 for stream in range(p)]
+
+
+def of_eleven_checks(count):
+    """A card with so many checks of eleven, all of them good: one for each term. tests/inputs/cards.c has the same."""
+    generators = [0b11, 0b101, 0b1001, 0b10001, 1, 1, 1]
+    checks = [syndrome(a, j, 7) for j, terms in enumerate(generators) for a in range(5) if terms >> a & 1]
+    return Card(13, 1, 8, 4, [generators], [checks[:count]])
 
 
 def of_terms(terms):
@@ -270,3 +304,4 @@ T = Card(10, 2, 3, 2, [[3], [5]], [[[1], [2]], [[1], [4]]])
 assert P.bytes() == bytes.fromhex("00 07 01 01 00 03 00 00 00 02 01 01 00 00 00 01 02 00 00 00")
 assert rewriting(P.bytes(True, True)) == P.bytes()
 assert listing(framed(P.bytes(), [3, 3, 3, 2])) == b"card 7 k 1 n 2 m 1\n0 1\n1 0\n2 1\nend 3\n"
+assert audit([(b"p", P.bytes()), (b"a p", P.bytes(True)), (b"", None), (b"p", P.bytes())]) == b"a p refused 18 at 2\n not read\nend 2\n"

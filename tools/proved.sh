@@ -1,4 +1,4 @@
-# What ./listing and ./rewrite-cards share. Each sets `script`, its name, and has a function `usage`; then it sources this file.
+# What ./listing, ./rewrite-cards and ./audit-cards share. Each sets `script`, its name, and has a function `usage`; then it sources this file.
 root=$(cd "$(dirname "${BASH_SOURCE[0]}")/.." && pwd)
 
 # A file's name as it is shown: as it stands, or quoted as bash does it where it has a control character, so that a line stays a line.

@@ -8,11 +8,10 @@ import random
 import sys
 
 sys.dont_write_bytecode = True
-from running import SAMPLES, at_once, by_the_byte, run
+from running import SAMPLES, at_once, by_the_byte, difference, run
 from cards import ELEVEN_CHECKS, LONGEST, TEN_CHECKS
-from reference import P, Q, R, T, Card, framed, listing
+from reference import LONGEST_READ, P, Q, R, T, Card, framed, listing
 
-LONGEST_CARD = 2048
 MOST_FRAMES = 32768
 RANDOM_INPUTS = 60
 
@@ -39,12 +38,12 @@ def inputs():
         "no input": b"",
         "one byte": P.bytes()[:1],
         "a stated length alone": framed(P.bytes(), [])[:2],
-        "a stated length of 2,048, and no more than card P": LONGEST_CARD.to_bytes(2, "little") + P.bytes(),
-        "a stated length of 2,049, and no more than card P": (LONGEST_CARD + 1).to_bytes(2, "little") + P.bytes(),
-        "a stated length of 2,048, and 32,768 frames: the longest that is listed": of_length(LONGEST_CARD, MOST_FRAMES),
-        "a stated length of 2,048, and 32,769 frames": of_length(LONGEST_CARD, MOST_FRAMES + 1),
-        "a stated length of 2,049, and 32,768 frames": of_length(LONGEST_CARD + 1, MOST_FRAMES),
-        "more than list reads": of_length(LONGEST_CARD, 3 * MOST_FRAMES),
+        "a stated length of 2,048, and no more than card P": LONGEST_READ.to_bytes(2, "little") + P.bytes(),
+        "a stated length of 2,049, and no more than card P": (LONGEST_READ + 1).to_bytes(2, "little") + P.bytes(),
+        "a stated length of 2,048, and 32,768 frames: the longest that is listed": of_length(LONGEST_READ, MOST_FRAMES),
+        "a stated length of 2,048, and 32,769 frames": of_length(LONGEST_READ, MOST_FRAMES + 1),
+        "a stated length of 2,049, and 32,768 frames": of_length(LONGEST_READ + 1, MOST_FRAMES),
+        "more than list reads": of_length(LONGEST_READ, 3 * MOST_FRAMES),
         "card P, and 32,769 frames": framed(P.bytes(), frames(P, MOST_FRAMES + 1)),
         "card P, and 32,768 frames, the last one with a digit too many": framed(P.bytes(), frames(P, MOST_FRAMES - 1) + [4]),
         "card P, and 32,769 frames, the first one with a digit too many": framed(P.bytes(), [4] + frames(P, MOST_FRAMES)),
@@ -77,14 +76,6 @@ def refused_frames():
         given[name] = framed(card.bytes(), received)
         assert listing(given[name]) == b"refused 11 at %d\n" % refused[0]
     return given
-
-
-def difference(wrote, wanted):
-    """The first line in which they differ."""
-    wrote, wanted = wrote.split(b"\n"), wanted.split(b"\n")
-    line = next((at for at, pair in enumerate(zip(wrote, wanted)) if pair[0] != pair[1]), min(len(wrote), len(wanted)))
-    shown = [repr(lines[line].decode(errors="replace")) if line < len(lines) else "the end" for lines in (wrote, wanted)]
-    return f"line {line + 1} is {shown[0]}, and should be {shown[1]}"
 
 
 def main():

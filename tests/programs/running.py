@@ -1,4 +1,4 @@
-"""Running a program that reads standard input and writes standard output; and where the reference, samples/reference.py, is imported from."""
+"""Running a program, on a standard input and arguments; and where the reference, samples/reference.py, is imported from."""
 import os
 import pathlib
 import subprocess
@@ -33,10 +33,10 @@ def by_the_byte(given):
     return reading
 
 
-def run(program, stdin, stdout=subprocess.PIPE):
-    """What the program wrote, and what it said on standard error. Its input is closed afterwards."""
+def run(program, stdin, stdout=subprocess.PIPE, arguments=(), **how):
+    """What the program wrote, and what it said on standard error. Its input is closed afterwards. `how` is as for subprocess.run."""
     try:
-        ended = subprocess.run([program], stdin=stdin, stdout=stdout, stderr=subprocess.PIPE, timeout=60)
+        ended = subprocess.run([program, *arguments], stdin=stdin, stdout=stdout, stderr=subprocess.PIPE, timeout=60, **how)
     except subprocess.TimeoutExpired:
         return b"", b"(it did not end)"
     finally:
@@ -45,3 +45,17 @@ def run(program, stdin, stdout=subprocess.PIPE):
     if ended.returncode != 0:
         return wrote, f"(it ended with status {ended.returncode})".encode()
     return wrote, ended.stderr
+
+
+def difference(wrote, wanted):
+    """The first line in which they differ."""
+    wrote, wanted = wrote.split(b"\n"), wanted.split(b"\n")
+    line = next((at for at, pair in enumerate(zip(wrote, wanted)) if pair[0] != pair[1]), min(len(wrote), len(wanted)))
+    shown = [shortened(lines[line]) if line < len(lines) else "the end" for lines in (wrote, wanted)]
+    return f"line {line + 1} is {shown[0]}, and should be {shown[1]}"
+
+
+def shortened(line):
+    """A line as it is shown: of a long one its length and both ends."""
+    text = repr(line)[1:]
+    return text if len(text) < 400 else f"{text[:60]} .. {text[-60:]} ({len(line)} bytes)"
