@@ -94,10 +94,7 @@ fn audit_argument(i: usize, output: &mut [u8; AUDIT_ROOM]) -> Audited
     if read.whole {
         auditing::audit(&buffer[..length], output, name)
     } else {
-        Audited {
-            count: auditing::not_read(output, name),
-            passed: 0,
-        }
+        auditing::not_read(output, name)
     }
 }
 

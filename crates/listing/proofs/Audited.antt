@@ -112,6 +112,17 @@ audits {after} bytes output name r small e w p =
       by-the-front = by-the-front (nameIn output name) bytes;
     }
 
+-- of a file that has a line
+pub told-as : {room count : ℕ} {line output after : List ℕ} {r : Audited} → r ≡ record { count = count; passed = 0 } → AtFront room line output count after
+    → AtFront room line output (r .count) after × (r .passed ≡ 0)
+told-as {room} {line = line} {output} {after} e w =
+    (subst (λ (n : ℕ). AtFront room line output n after) (sym (ap (λ (r : Audited). r .count) e)) w, ap (λ (r : Audited). r .passed) e)
+
+pub audits-told : {after line : List ℕ} {count : ℕ} (bytes output : List ℕ) (name : ℕ) (r : Audited) → ((i : ℕ) → getD bytes i 0 < 256)
+    → auditLine (nameIn output name) bytes ≡ line → AtFront 131109 line output count after → r ≡ record { count = count; passed = 0 } → passes bytes ≡ 0
+    → Audits bytes output name r after
+audits-told bytes output name r small e w is none = let t = told-as is w in audits bytes output name r small e (t .0) (t .1 ∙ sym none)
+
 -- a file is counted once at most
 pub passed-most : {bytes output after : List ℕ} {name : ℕ} {r : Audited} → Audits bytes output name r after → r .passed ≤ 1
 passed-most {bytes} promise = omega (arith, promise .counted, passes-most bytes)

@@ -53,15 +53,19 @@ fn refused(output: &mut [u8], name: usize, refusal: Refusal, offset: usize) -> u
     lines::refused(output, at, refusal, offset)
 }
 
+// A file that has a line does not pass.
+fn told(count: usize) -> Audited
+    ensures { λ r. ⌜ r ≡ record { count = count; passed = 0 } ⌝ }
+{
+    Audited { count, passed: 0 }
+}
+
 // A file of these bytes, whose name stands at the front of the output: its line there, if its card does not pass.
 pub fn audit(bytes: &[u8], output: &mut [u8; AUDIT_ROOM], name: usize) -> Audited
     ensures { λ r. ⌜ Audits (now (bytes .entry)) (now (output .entry)) name r (now (output .exit)) ⌝ }
 {
     if MOST_CARD_BYTES < bytes.len() {
-        return Audited {
-            count: too_long(output, name),
-            passed: 0,
-        };
+        return told(too_long(output, name));
     }
     let read = card::read_card(CardRule::Present, bytes);
     let verdict = read.verdict;
@@ -70,19 +74,16 @@ pub fn audit(bytes: &[u8], output: &mut [u8; AUDIT_ROOM], name: usize) -> Audite
             count: 0,
             passed: 1,
         },
-        Verdict::Refused { refusal, offset } => Audited {
-            count: refused(output, name, refusal, offset),
-            passed: 0,
-        },
+        Verdict::Refused { refusal, offset } => told(refused(output, name, refusal, offset)),
     }
 }
 
-// The line of a file that could not be read.
-pub fn not_read(output: &mut [u8; AUDIT_ROOM], name: usize) -> usize
-    ensures { λ r. ⌜ AtFront 131109 (named (nameIn (now (output .entry)) name) notReadLine) (now (output .entry)) r (now (output .exit)) ⌝ }
+// A file that could not be read, likewise.
+pub fn not_read(output: &mut [u8; AUDIT_ROOM], name: usize) -> Audited
+    ensures { λ r. ⌜ AtFront 131109 (named (nameIn (now (output .entry)) name) notReadLine) (now (output .entry)) (r .count) (now (output .exit)) × (r .passed ≡ 0) ⌝ }
 {
     let at = space(output, name);
-    lines::not_read(output, at)
+    told(lines::not_read(output, at))
 }
 
 // The last line: the count of those that pass.

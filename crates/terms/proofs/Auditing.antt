@@ -45,10 +45,11 @@ is-audited {bytes} {output} {name = name} promise =
       card-passes = λ e. let good = promise .good-passes e in (promise .told .count-is ∙ ap length (good .0), promise .counted ∙ good .1);
     }
 
-pub is-not-read : {output after : List ℕ} (name : ℕ) {n : ℕ} → AtFront 131109 (named (nameIn output name) notReadLine) output n after
-    → NotRead (take (min name 131072) output) output n after
+pub is-not-read : {output after : List ℕ} (name : ℕ) {n passed : ℕ} → AtFront 131109 (named (nameIn output name) notReadLine) output n after → passed ≡ 0
+    → NotRead (take (min name 131072) output) output n passed after
 unfolding nameIn
-is-not-read {output} name w = record { rest-kept = rest-kept w; told = front-is w ∙ named-not-read (take (min name 131072) output) }
+is-not-read {output} name w none =
+    record { rest-kept = rest-kept w; told = (front-is w ∙ named-not-read (take (min name 131072) output), none) }
 
 pub ends : {output after : List ℕ} (passed : ℕ) {n : ℕ} → AtFront 131109 (endLine passed) output n after → AuditEnds passed output n after
 ends passed w = record { rest-kept = rest-kept w; told = front-is w ∙ end-line passed }

@@ -391,9 +391,9 @@ pub record Audited (name bytes output : List ℕ) (n passed : ℕ) (after : List
   pub card-passes : readCard bytes .outcome ≡ accepted → (n ≡ 0) × (passed ≡ 1)
 
 -- "`not read` where reading fails"
-pub record NotRead (name output : List ℕ) (n : ℕ) (after : List ℕ) : Type 0 where
+pub record NotRead (name output : List ℕ) (n passed : ℕ) (after : List ℕ) : Type 0 where
   pub rest-kept : drop n after ≡ drop n output
-  pub told : take n after ≡ name ++ text " not read\n"
+  pub told : (take n after ≡ name ++ text " not read\n") × (passed ≡ 0)
 
 -- "and last `end` and the count that pass"
 pub record AuditEnds (passed : ℕ) (output : List ℕ) (n : ℕ) (after : List ℕ) : Type 0 where

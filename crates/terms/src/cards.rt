@@ -52,8 +52,8 @@ pub fn audit(bytes: &[u8], output: &mut [u8; AUDIT_ROOM], name: usize) -> Audite
     auditing::audit(bytes, output, name)
 }
 
-pub fn audit_not_read(output: &mut [u8; AUDIT_ROOM], name: usize) -> usize
-    ensures { λ r. ⌜ term.NotRead (take (min name 131072) (now (output .entry))) (now (output .entry)) r (now (output .exit)) ⌝ }
+pub fn audit_not_read(output: &mut [u8; AUDIT_ROOM], name: usize) -> Audited
+    ensures { λ r. ⌜ term.NotRead (take (min name 131072) (now (output .entry))) (now (output .entry)) (r .count) (r .passed) (now (output .exit)) ⌝ }
 {
     auditing::not_read(output, name)
 }

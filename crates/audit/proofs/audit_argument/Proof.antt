@@ -32,7 +32,7 @@ returns : tie.Need-returns
 returns c = let promise = c .audit .ensures in (front-within (promise .told), passed-most promise)
 
 returns-2 : tie.Need-returns-2
-returns-2 c = (front-within (c .not-read .ensures), omega arith)
+returns-2 c = let promise = c .not-read .ensures in (front-within (promise .0), omega (arith, promise .1))
 
 pub audit-argument-spec : {M : Type 1} → statement M
 audit-argument-spec =
