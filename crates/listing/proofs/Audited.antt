@@ -19,7 +19,7 @@ use Rattle.outcomes.specs.Wrote.{Wrote}
 use Rattle.outcomes.proofs.Writing.{wrote-both, wrote-length}
 use Rattle.listing.specs.AtFront.{AtFront}
 use Rattle.listing.specs.Written.{WroteLine}
-use Rattle.listing.specs.Auditing.{named, lineUnder, auditLine, passesUnder, passes, nameIn, Audits}
+use Rattle.listing.specs.Auditing.{mostName, auditRoom, named, lineUnder, auditLine, passesUnder, passes, nameIn, Audits}
 use Rattle.listing.specs.declared.auditing.Audited.{Audited}
 
 -- ---- nothing written
@@ -30,12 +30,12 @@ nothing room output = record { count-is = refl; bytes-are = refl; within = omega
 pub placed : {output after s : List ℕ} {at place r : ℕ} → at ≡ place → Wrote output at s after r → Wrote output place s after r
 placed {output} {after} {s} {r = r} e w = subst (λ (n : ℕ). Wrote output n s after r) e w
 
-module _ (output : List ℕ) (name : ℕ) (room : 131109 ≤ length output) where
-  front-of : (rest : List ℕ) {after : List ℕ} {r : ℕ} → Wrote output (min name 131072) rest after r → length rest ≤ 37
-      → AtFront 131109 (nameIn output name ++ rest) output r after
+module _ (output : List ℕ) (name : ℕ) (room : auditRoom ≤ length output) where
+  front-of : (rest : List ℕ) {after : List ℕ} {r : ℕ} → Wrote output (min name mostName) rest after r → length rest ≤ 37
+      → AtFront auditRoom (nameIn output name ++ rest) output r after
   unfolding nameIn
   front-of rest w few =
-      let n = min name 131072 in
+      let n = min name mostName in
       let whole : length (take n output) ≡ n = length-take-le n output (omega arith) in
       let long : length (take n output ++ rest) ≡ n + length rest = omega (arith, length-append (take n output) rest) in
       record {
@@ -47,12 +47,12 @@ module _ (output : List ℕ) (name : ℕ) (room : 131109 ≤ length output) wher
         within = omega (arith, w .end-is);
       }
 
-  pub room-after : {between : List ℕ} {at : ℕ} → Wrote output (min name 131072) (text " ") between at → at + 36 ≤ length between
+  pub room-after : {between : List ℕ} {at : ℕ} → Wrote output (min name mostName) (text " ") between at → at + 36 ≤ length between
   unfolding text
   room-after v = omega (arith, v .end-is, wrote-length v)
 
-  pub named-front : (rest : List ℕ) {between after : List ℕ} {at r most : ℕ} → Wrote output (min name 131072) (text " ") between at
-      → WroteLine most between at rest after r → most ≤ 36 → AtFront 131109 (named (nameIn output name) rest) output r after
+  pub named-front : (rest : List ℕ) {between after : List ℕ} {at r most : ℕ} → Wrote output (min name mostName) (text " ") between at
+      → WroteLine most between at rest after r → most ≤ 36 → AtFront auditRoom (named (nameIn output name) rest) output r after
   unfolding named text
   named-front rest v w few =
       front-of (text " " ++ rest) (wrote-both (text " ") rest v (w .wrote)) (omega (arith, w .within, w .wrote .end-is))
@@ -103,10 +103,10 @@ good-passes name bytes small e =
 
 -- ---- the promise of `audit`, from the line that was written and what it is to be
 pub audits : {after line : List ℕ} (bytes output : List ℕ) (name : ℕ) (r : Audited) → ((i : ℕ) → getD bytes i 0 < 256) → auditLine (nameIn output name) bytes ≡ line
-    → AtFront 131109 line output (r .count) after → r .passed ≡ passes bytes → Audits bytes output name r after
+    → AtFront auditRoom line output (r .count) after → r .passed ≡ passes bytes → Audits bytes output name r after
 audits {after} bytes output name r small e w p =
     record {
-      told = subst (λ (l : List ℕ). AtFront 131109 l output (r .count) after) (sym e) w;
+      told = subst (λ (l : List ℕ). AtFront auditRoom l output (r .count) after) (sym e) w;
       counted = p;
       good-passes = good-passes (nameIn output name) bytes small;
       by-the-front = by-the-front (nameIn output name) bytes;
@@ -119,7 +119,7 @@ told-as {room} {line = line} {output} {after} e w =
     (subst (λ (n : ℕ). AtFront room line output n after) (sym (ap (λ (r : Audited). r .count) e)) w, ap (λ (r : Audited). r .passed) e)
 
 pub audits-told : {after line : List ℕ} {count : ℕ} (bytes output : List ℕ) (name : ℕ) (r : Audited) → ((i : ℕ) → getD bytes i 0 < 256)
-    → auditLine (nameIn output name) bytes ≡ line → AtFront 131109 line output count after → r ≡ record { count = count; passed = 0 } → passes bytes ≡ 0
+    → auditLine (nameIn output name) bytes ≡ line → AtFront auditRoom line output count after → r ≡ record { count = count; passed = 0 } → passes bytes ≡ 0
     → Audits bytes output name r after
 audits-told bytes output name r small e w is none = let t = told-as is w in audits bytes output name r small e (t .0) (t .1 ∙ sym none)
 

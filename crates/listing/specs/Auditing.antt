@@ -2,7 +2,7 @@
 -- line, with `input too long` above 2,048 bytes and `not read` where reading fails, and last `end` and the count that pass").
 -- A name is at most 131,072 bytes, the most that Linux hands to a program as an argument; of a longer one the rest is not looked at.
 -- Assumes nothing.
-use Prim.Native.Nat.{ℕ, min}
+use Prim.Native.Nat.{ℕ, _+_, min}
 use mathlib.Core.Path.{_≡_}
 use mathlib.Core.Bool.{cond}
 use mathlib.Core.List.{List, [], _∷_, _++_}
@@ -14,6 +14,14 @@ use Rattle.outcomes.specs.Text.{text, line}
 use Rattle.outcomes.specs.Listing.{tooLongLine, refusedLine}
 use Rattle.listing.specs.AtFront.{AtFront}
 use Rattle.listing.specs.declared.auditing.Audited.{Audited}
+
+-- the longest name that an argument can be
+abbrev pub mostName : ℕ
+mostName = 131072
+
+-- room for every line: a name, a space, and the line of a refusal, which has at most 36 bytes
+abbrev pub auditRoom : ℕ
+auditRoom = mostName + 1 + 36
 
 -- "its name, a space and .."
 unfoldable pub named : List ℕ → List ℕ → List ℕ
@@ -42,12 +50,12 @@ passes bytes = cond (ltb 2048 (length bytes)) 0 (passesUnder (readCard bytes .ou
 
 -- the name at the front of an output
 unfoldable pub nameIn : List ℕ → ℕ → List ℕ
-nameIn output length = take (min length 131072) output
+nameIn output length = take (min length mostName) output
 
 -- a file of these bytes, whose name, of such a length, stands at the front of the output
 pub record Audits (bytes output : List ℕ) (name : ℕ) (r : Audited) (after : List ℕ) : Type 0 where
-  -- the line, for which the output, of 131,109 bytes, always has room
-  pub told : AtFront 131109 (auditLine (nameIn output name) bytes) output (r .count) after
+  -- the line, for which the output always has room
+  pub told : AtFront auditRoom (auditLine (nameIn output name) bytes) output (r .count) after
   pub counted : r .passed ≡ passes bytes
   -- a card that is accepted passes, and has no line
   pub good-passes : readCard bytes .outcome ≡ accepted → (auditLine (nameIn output name) bytes ≡ []) × (passes bytes ≡ 1)

@@ -7,7 +7,7 @@ ghost use Rattle.outcomes.specs.Text.{text};
 ghost use Rattle.outcomes.specs.Listing.{tooLongLine, refusedLine, endLine};
 ghost use Rattle.outcomes.specs.Wrote.{Wrote};
 ghost use Rattle.listing.specs.AtFront.{AtFront};
-ghost use Rattle.listing.specs.Auditing.{named, notReadLine, nameIn, Audits};
+ghost use Rattle.listing.specs.Auditing.{mostName, auditRoom, named, notReadLine, nameIn, Audits};
 use crate::lines;
 use crate::text::byte;
 use bits::at_most;
@@ -31,23 +31,23 @@ pub struct Audited {
 
 // A space after the name: the place after it.
 fn space(output: &mut [u8], name: usize) -> usize
-    requires { ⌜ 131109 ≤ length (now output) ⌝ }
-    ensures { λ r. ⌜ Wrote (now (output .entry)) (min name 131072) (text " ") (now (output .exit)) r ⌝ }
+    requires { ⌜ auditRoom ≤ length (now output) ⌝ }
+    ensures { λ r. ⌜ Wrote (now (output .entry)) (min name mostName) (text " ") (now (output .exit)) r ⌝ }
 {
     byte(output, at_most(name, MOST_NAME), b' ')
 }
 
 fn too_long(output: &mut [u8], name: usize) -> usize
-    requires { ⌜ 131109 ≤ length (now output) ⌝ }
-    ensures { λ r. ⌜ AtFront 131109 (named (nameIn (now (output .entry)) name) tooLongLine) (now (output .entry)) r (now (output .exit)) ⌝ }
+    requires { ⌜ auditRoom ≤ length (now output) ⌝ }
+    ensures { λ r. ⌜ AtFront auditRoom (named (nameIn (now (output .entry)) name) tooLongLine) (now (output .entry)) r (now (output .exit)) ⌝ }
 {
     let at = space(output, name);
     lines::too_long(output, at)
 }
 
 fn refused(output: &mut [u8], name: usize, refusal: Refusal, offset: usize) -> usize
-    requires { ⌜ 131109 ≤ length (now output) ⌝ }
-    ensures { λ r. ⌜ AtFront 131109 (named (nameIn (now (output .entry)) name) (refusedLine (numberOf refusal) offset)) (now (output .entry)) r (now (output .exit)) ⌝ }
+    requires { ⌜ auditRoom ≤ length (now output) ⌝ }
+    ensures { λ r. ⌜ AtFront auditRoom (named (nameIn (now (output .entry)) name) (refusedLine (numberOf refusal) offset)) (now (output .entry)) r (now (output .exit)) ⌝ }
 {
     let at = space(output, name);
     lines::refused(output, at, refusal, offset)
@@ -80,7 +80,7 @@ pub fn audit(bytes: &[u8], output: &mut [u8; AUDIT_ROOM], name: usize) -> Audite
 
 // A file that could not be read, likewise.
 pub fn not_read(output: &mut [u8; AUDIT_ROOM], name: usize) -> Audited
-    ensures { λ r. ⌜ AtFront 131109 (named (nameIn (now (output .entry)) name) notReadLine) (now (output .entry)) (r .count) (now (output .exit)) × (r .passed ≡ 0) ⌝ }
+    ensures { λ r. ⌜ AtFront auditRoom (named (nameIn (now (output .entry)) name) notReadLine) (now (output .entry)) (r .count) (now (output .exit)) × (r .passed ≡ 0) ⌝ }
 {
     let at = space(output, name);
     told(lines::not_read(output, at))
@@ -88,7 +88,7 @@ pub fn not_read(output: &mut [u8; AUDIT_ROOM], name: usize) -> Audited
 
 // The last line: the count of those that pass.
 pub fn end(output: &mut [u8; AUDIT_ROOM], passed: usize) -> usize
-    ensures { λ r. ⌜ AtFront 131109 (endLine passed) (now (output .entry)) r (now (output .exit)) ⌝ }
+    ensures { λ r. ⌜ AtFront auditRoom (endLine passed) (now (output .entry)) r (now (output .exit)) ⌝ }
 {
     lines::end_line(output, 0, passed)
 }

@@ -6,7 +6,7 @@ use lib.ListN.{length, take}
 use Rattle.outcomes.specs.Text.{text, decimal, spaced, line}
 use Rattle.outcomes.specs.Listing.{tooLongLine, refusedLine, endLine}
 use Rattle.listing.specs.AtFront.{AtFront}
-use Rattle.listing.specs.Auditing.{named, notReadLine, lineUnder, passesUnder, nameIn, Audits}
+use Rattle.listing.specs.Auditing.{auditRoom, named, notReadLine, lineUnder, passesUnder, nameIn, Audits}
 use Rattle.listing.specs.declared.auditing.Audited as declared
 use Rattle.listing.proofs.AtFront.{front-is, rest-kept}
 use Rattle.listing.proofs.Audited.{too-long, short, too-long-fails, short-passes}
@@ -45,11 +45,11 @@ is-audited {bytes} {output} {name = name} promise =
       card-passes = λ e. let good = promise .good-passes e in (promise .told .count-is ∙ ap length (good .0), promise .counted ∙ good .1);
     }
 
-pub is-not-read : {output after : List ℕ} (name : ℕ) {n passed : ℕ} → AtFront 131109 (named (nameIn output name) notReadLine) output n after → passed ≡ 0
+pub is-not-read : {output after : List ℕ} (name : ℕ) {n passed : ℕ} → AtFront auditRoom (named (nameIn output name) notReadLine) output n after → passed ≡ 0
     → NotRead (take (min name 131072) output) output n passed after
 unfolding nameIn
 is-not-read {output} name w none =
     record { rest-kept = rest-kept w; told = (front-is w ∙ named-not-read (take (min name 131072) output), none) }
 
-pub ends : {output after : List ℕ} (passed : ℕ) {n : ℕ} → AtFront 131109 (endLine passed) output n after → AuditEnds passed output n after
+pub ends : {output after : List ℕ} (passed : ℕ) {n : ℕ} → AtFront auditRoom (endLine passed) output n after → AuditEnds passed output n after
 ends passed w = record { rest-kept = rest-kept w; told = front-is w ∙ end-line passed }

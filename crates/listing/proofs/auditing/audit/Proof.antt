@@ -2,7 +2,7 @@
 use mathlib.Core.Path.{refl, sym, ap, _∙_}
 use native.Mathlib.Omega.{arith}
 use Rattle.card.specs.Outcome.{outcomeOf, CardOutcome}
-use Rattle.listing.specs.Auditing.{lineUnder, passesUnder, nameIn}
+use Rattle.listing.specs.Auditing.{auditRoom, lineUnder, passesUnder, nameIn}
 use Rattle.listing.proofs.Audited.{nothing, too-long, short, too-long-fails, short-passes, audits, audits-told}
 use borrow.Author.Needs.{needs}
 use Rattle.listing.proofs.auditing.audit.Statement.{statement}
@@ -48,7 +48,7 @@ returns-2 c =
     let own = nameIn (a .output .now) (a .name) in
     let e = sym (ap (λ (x : CardOutcome). x .outcome) (read .ensures .is-read)) ∙ ap outcomeOf (c .enum-told .given .1) in
     audits (a .bytes .now) (a .output .now) (a .name) _ (λ i. omega (arith, known .shared-slice-known .given i))
-    (short own (a .bytes .now) few ∙ ap (lineUnder own) e) (nothing 131109 (a .output .now))
+    (short own (a .bytes .now) few ∙ ap (lineUnder own) e) (nothing auditRoom (a .output .now))
     (sym (short-passes (a .bytes .now) few ∙ ap passesUnder e))
 
 returns-3 : tie.Need-returns-3

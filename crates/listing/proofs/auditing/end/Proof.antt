@@ -1,5 +1,6 @@
 use mathlib.Core.Path.{refl}
 use native.Mathlib.Omega.{arith}
+use Rattle.listing.specs.Auditing.{auditRoom}
 use Rattle.listing.proofs.AtFront.{front-written}
 use Rattle.listing.proofs.Decimal.{decimal-length}
 use Rattle.listing.proofs.LineParts.{end-parts}
@@ -18,7 +19,7 @@ returns c =
     let passed = start .args .passed in
     let few = decimal-length 19 passed (omega (arith, start .fits .passed)) in
     let wrote = c .end-line .ensures in
-    front-written {most = 25} (start .args .output .now) 131109 refl
+    front-written {most = 25} (start .args .output .now) auditRoom refl
     (record { wrote = wrote; within = omega (arith, wrote .end-is, end-parts passed, few) }) (omega arith) (search needs)
 
 pub end-spec : {M : Type 1} → statement M
