@@ -58,11 +58,11 @@ cardWide =
 -- two differences are equal, so that each term by itself is a check, eleven in all. Here with the first so many of them; J is byte 34
 abbrev pub cardMany : ℕ → List ℕ
 cardMany J =
-    2 ∷ 17 ∷ 8 ∷ 4 ∷ 127 ∷ 0 ∷ mask 3 ++ mask 5 ++ mask 9 ++ mask 17 ++ mask 1 ++ mask 1 ++ mask 1
+    2 ∷ 13 ∷ 8 ∷ 4 ∷ 127 ∷ 0 ∷ mask 3 ++ mask 5 ++ mask 9 ++ mask 17 ++ mask 1 ++ mask 1 ++ mask 1
     ++ J ∷ take (J * 5)
     (1 ∷ mask 1 ++ 1 ∷ mask 2 ++ 2 ∷ mask 1 ++ 2 ∷ mask 4 ++ 4 ∷ mask 1 ++ 4 ∷ mask 8 ++ 8 ∷ mask 1 ++ 8 ∷ mask 16
     ++ 16 ∷ mask 1 ++ 32 ∷ mask 1 ++ 64 ∷ mask 1)
 
 -- .. as it may be stored since before R-4: k stated as 1
 abbrev pub storedMany : ℕ → List ℕ
-storedMany J = 3 ∷ 17 ∷ 1 ∷ drop 2 (cardMany J)
+storedMany J = 3 ∷ 13 ∷ 1 ∷ drop 2 (cardMany J)

@@ -119,7 +119,8 @@ pub record InLimits (rule : CardRule) (f : Fields) : Type 0 where
   pub ranges : InRanges f
   pub defaults : DefaultsIn rule f
 
--- "No accepted card has more than 1,163 bytes": k 4 and n 8 stand, all sixteen generators, and for each stream J and the most checks, of four masks each
+-- document 02, R-13, "No accepted card is then longer than 755 bytes": k 4 and n 8 stand, all sixteen generators, and for each stream J and the most checks,
+-- of four masks each
 abbrev pub longestCard : ℕ
 longestCard = 5 + (2 + 4 * 16) + 4 * (1 + mostChecks * (1 + 4 * 4))
 

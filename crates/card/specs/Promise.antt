@@ -1,6 +1,6 @@
 -- What reading a card promises, under either rule: document 01, "A card is accepted if reading gives no refusal", the notice's "a card is accepted
--- exactly when both hold", and "No accepted card has more than 1,163 bytes"; and document 02, R-4, "equal cards, the order
--- of checks included, means equal bytes".
+-- exactly when both hold"; and document 02, R-4, "equal cards, the order of checks included, means equal bytes", and R-13, "No accepted card is then longer
+-- than 755 bytes".
 -- Assumes nothing.
 use Prim.Native.Nat.{ℕ, _≤_, _<_}
 use mathlib.Core.Path.{_≡_}
