@@ -19,8 +19,7 @@ use outcomes::MOST_CARD_BYTES;
 // The most bytes of a file's name. Linux hands a program no longer argument.
 pub const MOST_NAME: usize = 131072;
 
-// No line is longer: a name, a space, and the line of a refusal, which has at most 36 bytes. The name stands at the front of the output before its line is
-// written.
+// No line is longer: a name, a space, and the line of a refusal, which has at most 36 bytes.
 pub const AUDIT_ROOM: usize = MOST_NAME + 1 + 36;
 
 // What became of a file: the count of its line's bytes, 0 where there is none, and what it adds to the count of those that pass.
@@ -29,7 +28,7 @@ pub struct Audited {
     pub passed: usize,
 }
 
-// A space after the name: the place after it.
+// A space after the name, which stands at the front of the output; `name` is its length, here and below. The place after the space.
 fn space(output: &mut [u8], name: usize) -> usize
     requires { ⌜ auditRoom ≤ length (now output) ⌝ }
     ensures { λ r. ⌜ Wrote (now (output .entry)) (min name mostName) (text " ") (now (output .exit)) r ⌝ }
@@ -60,7 +59,7 @@ fn told(count: usize) -> Audited
     Audited { count, passed: 0 }
 }
 
-// A file of these bytes, whose name stands at the front of the output: its line there, if its card does not pass.
+// A file of these bytes: its line at the front of the output, after its name, if its card does not pass.
 pub fn audit(bytes: &[u8], output: &mut [u8; AUDIT_ROOM], name: usize) -> Audited
     ensures { λ r. ⌜ Audits (now (bytes .entry)) (now (output .entry)) name r (now (output .exit)) ⌝ }
 {
