@@ -12,6 +12,7 @@
  *     whole        what is read of a file that grows or shrinks counts
  *     before       so it does if it changes before the first read
  *     after        so it does if it changes after the last read
+ *     beyond       a file that grows beyond what is read is too long
  *     pipe         what has no size, as a pipe, is not read
  *     link         links are not followed
  *     left_open    files stay open
@@ -82,12 +83,14 @@ static long read_file(const char *name)
     off_t after = size_of(file);
     if (!errs("left_open"))
         close(file);
-    if (count > MOST_STORED_BYTES || half || errs("whole"))
+    if (half || errs("whole"))
         return count;
     if (before < 0)
         return errs("pipe") ? -1 : count;
     if (errs("folder") && count == 0)
         return 0;
+    if (count > MOST_STORED_BYTES)
+        return before == after || errs("beyond") ? count : -1;
     return (before == count || errs("before")) && (after == count || errs("after")) ? count : -1;
 }
 

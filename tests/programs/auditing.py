@@ -151,6 +151,7 @@ def try_changes(program, changing):
         "a file that grows to a whole card": (GOOD[:10], GOOD),
         "a whole card that grows": (GOOD, GOOD + b"\0"),
         "an empty file that grows": (b"", GOOD),
+        "a whole card that grows beyond what is read": (GOOD, GOOD.ljust(LONGEST_READ + 1000, b"\0")),
         "a file that shrinks to a whole card": (GOOD + b"\0", GOOD),
         "a whole card that shrinks": (GOOD, GOOD[:10]),
         "a card that can't be read any more": (GOOD, None),

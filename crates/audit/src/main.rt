@@ -49,8 +49,8 @@ fn fill(fd: i32, buffer: &mut [u8]) -> Contents
     }
 }
 
-// Reads an open file. Where it ends, before and after, has to be where the reading ended: otherwise it was changed meanwhile, and is not whole. What can't be
-// positioned, as a pipe, has -1 for all three. Where the buffer is full there is too much, whatever is changed.
+// Reads an open file. It has to end where it ended before the reading, and the reading there too unless the buffer is full: otherwise it was changed meanwhile,
+// and is not whole. What can't be positioned, as a pipe, has -1 for all three.
 fn read_open(fd: i32, buffer: &mut [u8]) -> Contents
     ensures { λ r. ⌜ r .length ≤ length (now (buffer .exit)) ⌝ }
 {
@@ -59,7 +59,7 @@ fn read_open(fd: i32, buffer: &mut [u8]) -> Contents
     let read = fill(fd, buffer);
     let here = libc::lseek(fd, 0, SEEK_CUR);
     let after = libc::lseek(fd, 0, SEEK_END);
-    let steady = before == here && here == after || read.length == buffer.len();
+    let steady = before == after && (here == after || read.length == buffer.len());
     Contents {
         whole: read.whole && steady,
         length: read.length,
