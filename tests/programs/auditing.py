@@ -111,6 +111,7 @@ def kinds():
         b"/dev/null": b"",
         b"/dev/zero": bytes(LONGEST_READ + 1),
         b"/proc/self/mem": None,  # it can be opened, and has nothing to read at its start
+        b"/proc/version": pathlib.Path("/proc/version").read_bytes(),  # where it ends can't be asked for
         path_of(LONGEST_PATH, b"file") + b"s": None,  # too long; one byte less would name a good card
         path_of(LONGEST_ARGUMENT, b"file"): None,
         b"n" * LONGEST_ARGUMENT: None,

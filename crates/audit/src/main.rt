@@ -50,7 +50,7 @@ fn fill(fd: i32, buffer: &mut [u8]) -> Contents
 }
 
 // Reads an open file. It has to end where it ended before the reading, and the reading there too unless the buffer is full: otherwise it was changed meanwhile,
-// and is not whole. What can't be positioned, as a pipe, has -1 for all three.
+// and is not whole. Where a pipe ends can't be asked for: the answer is below 0, and tells nothing.
 fn read_open(fd: i32, buffer: &mut [u8]) -> Contents
     ensures { λ r. ⌜ r .length ≤ length (now (buffer .exit)) ⌝ }
 {
@@ -59,7 +59,8 @@ fn read_open(fd: i32, buffer: &mut [u8]) -> Contents
     let read = fill(fd, buffer);
     let here = libc::lseek(fd, 0, SEEK_CUR);
     let after = libc::lseek(fd, 0, SEEK_END);
-    let steady = before == after && (here == after || read.length == buffer.len());
+    let known = before == after && (here == after || read.length == buffer.len());
+    let steady = before < 0 || known;
     Contents {
         whole: read.whole && steady,
         length: read.length,
