@@ -59,20 +59,20 @@ fn read_open(fd: i32, buffer: &mut [u8]) -> Contents
     let read = fill(fd, buffer);
     let here = libc::lseek(fd, 0, SEEK_CUR);
     let after = libc::lseek(fd, 0, SEEK_END);
-    let known = before == after && (here == after || read.length == buffer.len());
-    let steady = before < 0 || known;
+    let stayed = before == after && (here == after || read.length == buffer.len());
+    let steady = before < 0 || stayed;
     Contents {
         whole: read.whole && steady,
         length: read.length,
     }
 }
 
-// Reads the file of a name, which stands at the front of some bytes.
-fn read_file(named: &[u8], name: usize, buffer: &mut [u8]) -> Contents
-    requires { ⌜ name ≤ length (now named) ⌝ }
+// Reads the file whose name, of this size, stands at the front of the bytes.
+fn read_file(named: &[u8], size: usize, buffer: &mut [u8]) -> Contents
+    requires { ⌜ size ≤ length (now named) ⌝ }
     ensures { λ r. ⌜ r .length ≤ length (now (buffer .exit)) ⌝ }
 {
-    let fd = os::open_read(&named[..name]);
+    let fd = os::open_read(&named[..size]);
     if fd < 0 {
         return Contents {
             whole: false,
@@ -88,15 +88,11 @@ fn read_file(named: &[u8], name: usize, buffer: &mut [u8]) -> Contents
 fn audit_argument(i: usize, output: &mut [u8; AUDIT_ROOM]) -> Audited
     ensures { λ r. ⌜ (r .count ≤ length (now (output .exit))) × (r .passed ≤ 1) ⌝ }
 {
-    let name = os::arg(i, output);
+    let size = os::arg(i, output);
     let mut buffer = [0u8; FRONT];
-    let read = read_file(output, name, &mut buffer);
+    let read = read_file(output, size, &mut buffer);
     let length = read.length;
-    if read.whole {
-        auditing::audit(&buffer[..length], output, name)
-    } else {
-        auditing::not_read(output, name)
-    }
+    auditing::audit(read.whole, &buffer[..length], output, size)
 }
 
 // What became of the lines. A program has no exit status, so standard error alone can tell that they are not whole.

@@ -1,25 +1,25 @@
 -- What an audit says of a file, case by case, and the promise of `audit`.
 use Prim.Native.Nat.{ℕ, _+_, _≤_, _<_, min}
 use mathlib.Core.Path.{_≡_, refl, sym, ap, subst, _∙_}
-use mathlib.Core.List.{List, [], _++_}
+use mathlib.Core.Bool.{Bool, true, false, not, true≢false, false≢true}
+use mathlib.Core.List.{List, [], _∷_, _++_}
 use mathlib.Core.Logic.{⊎-elim}
 use native.Mathlib.Omega.{arith}
 use lib.ListN.{length, getD, take, drop, length-append, length-take}
 use lib.Seq.{sets-eq, take-all, length-take-le}
-use lib.Dec.{ltb}
 use borrow.Author.Tests.{lt-ltb, le-ltb}
-use Rattle.bits.proofs.Cases.{le-or-lt, cond-le}
-use Rattle.card.specs.Outcome.{Outcome, accepted, refused}
+use Rattle.bits.proofs.Cases.{le-or-lt}
+use Rattle.card.specs.Outcome.{accepted}
 use Rattle.card.specs.Reading.{readCard}
 use Rattle.card.specs.declared.CardRule.the-variants.{Present}
 use Rattle.card.proofs.Acceptance.{accepted-length}
-use Rattle.outcomes.specs.Text.{text}
-use Rattle.outcomes.specs.Listing.{tooLongLine}
+use Rattle.outcomes.specs.Text.{text, line}
+use Rattle.outcomes.specs.Listing.{tooLongLine, refusedLine}
 use Rattle.outcomes.specs.Wrote.{Wrote}
 use Rattle.outcomes.proofs.Writing.{wrote-both, wrote-length}
 use Rattle.listing.specs.AtFront.{AtFront}
 use Rattle.listing.specs.Written.{WroteLine}
-use Rattle.listing.specs.Auditing.{mostName, auditRoom, named, lineUnder, auditLine, passesUnder, passes, nameIn, Audits}
+use Rattle.listing.specs.Auditing.{mostName, auditRoom, nameIn, notReadLine, faultUnder, fault, auditLine, passes, Audits}
 use Rattle.listing.specs.declared.auditing.Audited.{Audited}
 
 -- ---- nothing written
@@ -30,12 +30,12 @@ nothing room output = record { count-is = refl; bytes-are = refl; within = omega
 pub placed : {output after s : List ℕ} {at place r : ℕ} → at ≡ place → Wrote output at s after r → Wrote output place s after r
 placed {output} {after} {s} {r = r} e w = subst (λ (n : ℕ). Wrote output n s after r) e w
 
-module _ (output : List ℕ) (name : ℕ) (room : auditRoom ≤ length output) where
-  front-of : (rest : List ℕ) {after : List ℕ} {r : ℕ} → Wrote output (min name mostName) rest after r → length rest ≤ 37
-      → AtFront auditRoom (nameIn output name ++ rest) output r after
+module _ (output : List ℕ) (size : ℕ) (room : auditRoom ≤ length output) where
+  front-of : (rest : List ℕ) {after : List ℕ} {r : ℕ} → Wrote output (min size mostName) rest after r → length rest ≤ 37
+      → AtFront auditRoom (nameIn output size ++ rest) output r after
   unfolding nameIn
   front-of rest w few =
-      let n = min name mostName in
+      let n = min size mostName in
       let whole : length (take n output) ≡ n = length-take-le n output (omega arith) in
       let long : length (take n output ++ rest) ≡ n + length rest = omega (arith, length-append (take n output) rest) in
       record {
@@ -47,82 +47,99 @@ module _ (output : List ℕ) (name : ℕ) (room : auditRoom ≤ length output) w
         within = omega (arith, w .end-is);
       }
 
-  pub room-after : {between : List ℕ} {at : ℕ} → Wrote output (min name mostName) (text " ") between at → at + 36 ≤ length between
+  pub room-after : {between : List ℕ} {at : ℕ} → Wrote output (min size mostName) (text " ") between at → at + 36 ≤ length between
   unfolding text
   room-after v = omega (arith, v .end-is, wrote-length v)
 
-  pub named-front : (rest : List ℕ) {between after : List ℕ} {at r most : ℕ} → Wrote output (min name mostName) (text " ") between at
-      → WroteLine most between at rest after r → most ≤ 36 → AtFront auditRoom (named (nameIn output name) rest) output r after
-  unfolding named text
-  named-front rest v w few =
-      front-of (text " " ++ rest) (wrote-both (text " ") rest v (w .wrote)) (omega (arith, w .within, w .wrote .end-is))
+  pub line-front : (why : List ℕ) {between after : List ℕ} {at r most : ℕ} → auditLine (nameIn output size) why ≡ nameIn output size ++ (text " " ++ why)
+      → Wrote output (min size mostName) (text " ") between at → WroteLine most between at why after r → most ≤ 36
+      → AtFront auditRoom (auditLine (nameIn output size) why) output r after
+  unfolding text
+  line-front why {after = after} {r = r} is v w few =
+      subst (λ (l : List ℕ). AtFront auditRoom l output r after) (sym is)
+      (front-of (text " " ++ why) (wrote-both (text " ") why v (w .wrote)) (omega (arith, w .within, w .wrote .end-is)))
+
+-- ---- the lines of those that do not pass, none of which is empty
+module _ (name : List ℕ) where
+  pub not-read-told : auditLine name notReadLine ≡ name ++ (text " " ++ notReadLine)
+  unfolding auditLine notReadLine line text
+  not-read-told = refl
+
+  pub too-long-told : auditLine name tooLongLine ≡ name ++ (text " " ++ tooLongLine)
+  unfolding auditLine tooLongLine line text
+  too-long-told = refl
+
+  pub refused-told : (number offset : ℕ) → auditLine name (refusedLine number offset) ≡ name ++ (text " " ++ refusedLine number offset)
+  unfolding auditLine refusedLine line text
+  refused-told number offset = refl
+
+pub not-read-fails : passes notReadLine ≡ 0
+unfolding passes notReadLine line text
+not-read-fails = refl
+
+pub too-long-fails : passes tooLongLine ≡ 0
+unfolding passes tooLongLine line text
+too-long-fails = refl
+
+pub refused-fails : (number offset : ℕ) → passes (refusedLine number offset) ≡ 0
+unfolding passes refusedLine line text
+refused-fails number offset = refl
 
 -- ---- each case
-module _ (name bytes : List ℕ) where
-  pub too-long : 2048 < length bytes → auditLine name bytes ≡ named name tooLongLine
-  unfolding auditLine
-  too-long l = rw (lt-ltb 2048 (length bytes) l)
+pub not-read : (whole : Bool) (bytes : List ℕ) → not whole ≡ true → fault whole bytes ≡ notReadLine
+unfolding fault
+not-read true bytes e = absurd (false≢true e)
+not-read false bytes e = refl
 
-  pub short : length bytes ≤ 2048 → auditLine name bytes ≡ lineUnder name (readCard bytes .outcome)
-  unfolding auditLine
-  short l = rw (le-ltb 2048 (length bytes) l)
+pub was-read : (whole : Bool) (bytes : List ℕ) → not whole ≡ false → fault whole bytes ≡ fault true bytes
+was-read true bytes e = refl
+was-read false bytes e = absurd (true≢false e)
 
-module _ (bytes : List ℕ) where
-  pub too-long-fails : 2048 < length bytes → passes bytes ≡ 0
-  unfolding passes
-  too-long-fails l = rw (lt-ltb 2048 (length bytes) l)
+pub too-long : (bytes : List ℕ) → 2048 < length bytes → fault true bytes ≡ tooLongLine
+unfolding fault
+too-long bytes l = rw (lt-ltb 2048 (length bytes) l)
 
-  pub short-passes : length bytes ≤ 2048 → passes bytes ≡ passesUnder (readCard bytes .outcome)
-  unfolding passes
-  short-passes l = rw (le-ltb 2048 (length bytes) l)
+pub short : (bytes : List ℕ) → length bytes ≤ 2048 → fault true bytes ≡ faultUnder (readCard bytes .outcome)
+unfolding fault
+short bytes l = rw (le-ltb 2048 (length bytes) l)
 
-under-most : (o : Outcome) → passesUnder o ≤ 1
-unfolding passesUnder
-under-most accepted = omega arith
-under-most (refused number offset) = omega arith
-
-passes-most : (bytes : List ℕ) → passes bytes ≤ 1
-unfolding passes
-passes-most bytes = cond-le (ltb 2048 (length bytes)) 0 (passesUnder (readCard bytes .outcome)) 1 (omega arith) (under-most (readCard bytes .outcome))
-
-by-the-front : (name bytes whole : List ℕ) → bytes ≡ take 2049 whole → (auditLine name whole ≡ auditLine name bytes) × (passes whole ≡ passes bytes)
-by-the-front name bytes whole e =
+by-the-front : (bytes all : List ℕ) → bytes ≡ take 2049 all → fault true all ≡ fault true bytes
+by-the-front bytes all e =
     ⊎-elim
-    (λ l. let same = sym (e ∙ take-all 2049 whole l) in (ap (auditLine name) same, ap passes same))
-    (λ l.
-    let here : 2048 < length bytes = omega (arith, ap length e, length-take 2049 whole) in
-    (too-long name whole (omega arith) ∙ sym (too-long name bytes here), too-long-fails whole (omega arith) ∙ sym (too-long-fails bytes here)))
-    (le-or-lt (length whole) 2049)
+    (λ l. ap (fault true) (sym (e ∙ take-all 2049 all l)))
+    (λ l. too-long all (omega arith) ∙ sym (too-long bytes (omega (arith, ap length e, length-take 2049 all))))
+    (le-or-lt (length all) 2049)
 
 -- no accepted card is too long
-good-passes : (name bytes : List ℕ) → ((i : ℕ) → getD bytes i 0 < 256) → readCard bytes .outcome ≡ accepted → (auditLine name bytes ≡ []) × (passes bytes ≡ 1)
-unfolding lineUnder passesUnder
-good-passes name bytes small e =
-    let l : length bytes ≤ 2048 = omega (arith, accepted-length Present bytes small e) in
-    (short name bytes l ∙ ap (lineUnder name) e, short-passes bytes l ∙ ap passesUnder e)
+good-passes : (bytes : List ℕ) → ((i : ℕ) → getD bytes i 0 < 256) → readCard bytes .outcome ≡ accepted → fault true bytes ≡ []
+unfolding faultUnder
+good-passes bytes small e = short bytes (omega (arith, accepted-length Present bytes small e)) ∙ ap faultUnder e
 
--- ---- the promise of `audit`, from the line that was written and what it is to be
-pub audits : {after line : List ℕ} (bytes output : List ℕ) (name : ℕ) (r : Audited) → ((i : ℕ) → getD bytes i 0 < 256) → auditLine (nameIn output name) bytes ≡ line
-    → AtFront auditRoom line output (r .count) after → r .passed ≡ passes bytes → Audits bytes output name r after
-audits {after} bytes output name r small e w p =
-    record {
-      told = subst (λ (l : List ℕ). AtFront auditRoom l output (r .count) after) (sym e) w;
-      counted = p;
-      good-passes = good-passes (nameIn output name) bytes small;
-      by-the-front = by-the-front (nameIn output name) bytes;
-    }
+-- ---- the promise of `audit`, from why the file does not pass and the line that was written
+module _ (whole : Bool) (bytes output : List ℕ) (size : ℕ) (r : Audited) (small : (i : ℕ) → getD bytes i 0 < 256) {after why : List ℕ}
+    (is : fault whole bytes ≡ why) where
+  pub audits : AtFront auditRoom (auditLine (nameIn output size) why) output (r .count) after → r .passed ≡ passes why
+      → Audits whole bytes output size r after
+  audits w p =
+      record {
+        told = subst (λ (f : List ℕ). AtFront auditRoom (auditLine (nameIn output size) f) output (r .count) after) (sym is) w;
+        counted = p ∙ ap passes (sym is);
+        good-passes = good-passes bytes small;
+        by-the-front = by-the-front bytes;
+      }
 
--- of a file that has a line
-pub told-as : {room count : ℕ} {line output after : List ℕ} {r : Audited} → r ≡ record { count = count; passed = 0 } → AtFront room line output count after
-    → AtFront room line output (r .count) after × (r .passed ≡ 0)
-told-as {room} {line = line} {output} {after} e w =
-    (subst (λ (n : ℕ). AtFront room line output n after) (sym (ap (λ (r : Audited). r .count) e)) w, ap (λ (r : Audited). r .passed) e)
-
-pub audits-told : {after line : List ℕ} {count : ℕ} (bytes output : List ℕ) (name : ℕ) (r : Audited) → ((i : ℕ) → getD bytes i 0 < 256)
-    → auditLine (nameIn output name) bytes ≡ line → AtFront auditRoom line output count after → r ≡ record { count = count; passed = 0 } → passes bytes ≡ 0
-    → Audits bytes output name r after
-audits-told bytes output name r small e w is none = let t = told-as is w in audits bytes output name r small e (t .0) (t .1 ∙ sym none)
+  pub audits-told : {count : ℕ} → AtFront auditRoom (auditLine (nameIn output size) why) output count after → r ≡ record { count = count; passed = 0 }
+      → passes why ≡ 0 → Audits whole bytes output size r after
+  audits-told w e none =
+      audits
+      (subst (λ (n : ℕ). AtFront auditRoom (auditLine (nameIn output size) why) output n after) (sym (ap (λ (r : Audited). r .count) e)) w)
+      (ap (λ (r : Audited). r .passed) e ∙ sym none)
 
 -- a file is counted once at most
-pub passed-most : {bytes output after : List ℕ} {name : ℕ} {r : Audited} → Audits bytes output name r after → r .passed ≤ 1
-passed-most {bytes} promise = omega (arith, promise .counted, passes-most bytes)
+passes-most : (why : List ℕ) → passes why ≤ 1
+unfolding passes
+passes-most [] = omega arith
+passes-most (x ∷ why) = omega arith
+
+pub passed-most : {whole : Bool} {bytes output after : List ℕ} {size : ℕ} {r : Audited} → Audits whole bytes output size r after → r .passed ≤ 1
+passed-most {whole} {bytes} promise = omega (arith, promise .counted, passes-most (fault whole bytes))

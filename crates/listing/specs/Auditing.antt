@@ -1,10 +1,11 @@
 -- What an audit prints for a stored card file: document 02, R-13 ("prints, in order, for each refused one its name, a space and the listing's refusal
 -- line, with `input too long` above 2,048 bytes and `not read` where reading fails, and last `end` and the count that pass").
--- A name is at most 131,072 bytes, the most that Linux hands to a program as an argument; of a longer one the rest is not looked at.
+-- A file is given by whether it was read to its end, and by its bytes. Its name stands at the front of the output, and of one longer than 131,072 bytes the rest
+-- is not looked at: no argument that Linux hands to a program is so long.
 -- Assumes nothing.
 use Prim.Native.Nat.{ℕ, _+_, min}
 use mathlib.Core.Path.{_≡_}
-use mathlib.Core.Bool.{cond}
+use mathlib.Core.Bool.{Bool, true, cond}
 use mathlib.Core.List.{List, [], _∷_, _++_}
 use lib.ListN.{length, take}
 use lib.Dec.{ltb}
@@ -15,7 +16,7 @@ use Rattle.outcomes.specs.Listing.{tooLongLine, refusedLine}
 use Rattle.listing.specs.AtFront.{AtFront}
 use Rattle.listing.specs.declared.auditing.Audited.{Audited}
 
--- the longest name that an argument can be
+-- no name is longer
 abbrev pub mostName : ℕ
 mostName = 131072
 
@@ -23,42 +24,37 @@ mostName = 131072
 abbrev pub auditRoom : ℕ
 auditRoom = mostName + 1 + 36
 
--- "its name, a space and .."
-unfoldable pub named : List ℕ → List ℕ → List ℕ
-named name rest = name ++ (text " " ++ rest)
+-- the name of this size that stands at the front of an output
+unfoldable pub nameIn : List ℕ → ℕ → List ℕ
+nameIn output size = take (min size mostName) output
 
 -- "`not read` where reading fails"
 unfoldable pub notReadLine : List ℕ
 notReadLine = line (text "not") (text "read" ∷ [])
 
--- the line of a file by what its card's reading came to; none where it passes
-unfoldable pub lineUnder : List ℕ → Outcome → List ℕ
-lineUnder name accepted = []
-lineUnder name (refused number offset) = named name (refusedLine number offset)
+-- why a file does not pass, by what its card's reading came to; nothing where it passes
+unfoldable pub faultUnder : Outcome → List ℕ
+faultUnder accepted = []
+faultUnder (refused number offset) = refusedLine number offset
 
--- the line of a file that was read
+unfoldable pub fault : Bool → List ℕ → List ℕ
+fault whole bytes = cond whole (cond (ltb 2048 (length bytes)) tooLongLine (faultUnder (readCard bytes .outcome))) notReadLine
+
+-- "for each refused one its name, a space and" why; nothing for the others
 unfoldable pub auditLine : List ℕ → List ℕ → List ℕ
-auditLine name bytes = cond (ltb 2048 (length bytes)) (named name tooLongLine) (lineUnder name (readCard bytes .outcome))
+auditLine name [] = []
+auditLine name (x ∷ why) = name ++ (text " " ++ (x ∷ why))
 
--- what it adds to "the count that pass"
-unfoldable pub passesUnder : Outcome → ℕ
-passesUnder accepted = 1
-passesUnder (refused number offset) = 0
-
+-- what a file adds to "the count that pass"
 unfoldable pub passes : List ℕ → ℕ
-passes bytes = cond (ltb 2048 (length bytes)) 0 (passesUnder (readCard bytes .outcome))
+passes [] = 1
+passes (x ∷ why) = 0
 
--- the name at the front of an output
-unfoldable pub nameIn : List ℕ → ℕ → List ℕ
-nameIn output length = take (min length mostName) output
-
--- a file of these bytes, whose name, of such a length, stands at the front of the output
-pub record Audits (bytes output : List ℕ) (name : ℕ) (r : Audited) (after : List ℕ) : Type 0 where
+pub record Audits (whole : Bool) (bytes output : List ℕ) (size : ℕ) (r : Audited) (after : List ℕ) : Type 0 where
   -- the line, for which the output always has room
-  pub told : AtFront auditRoom (auditLine (nameIn output name) bytes) output (r .count) after
-  pub counted : r .passed ≡ passes bytes
-  -- a card that is accepted passes, and has no line
-  pub good-passes : readCard bytes .outcome ≡ accepted → (auditLine (nameIn output name) bytes ≡ []) × (passes bytes ≡ 1)
+  pub told : AtFront auditRoom (auditLine (nameIn output size) (fault whole bytes)) output (r .count) after
+  pub counted : r .passed ≡ passes (fault whole bytes)
+  -- a card that is accepted passes
+  pub good-passes : readCard bytes .outcome ≡ accepted → fault true bytes ≡ []
   -- what follows the first 2,049 bytes of a file changes nothing, so nobody needs to read further
-  pub by-the-front : (whole : List ℕ) → bytes ≡ take 2049 whole
-      → (auditLine (nameIn output name) whole ≡ auditLine (nameIn output name) bytes) × (passes whole ≡ passes bytes)
+  pub by-the-front : (all : List ℕ) → bytes ≡ take 2049 all → fault true all ≡ fault true bytes

@@ -7,7 +7,7 @@ ghost use Rattle.outcomes.specs.Text.{text};
 ghost use Rattle.outcomes.specs.Listing.{tooLongLine, refusedLine, endLine};
 ghost use Rattle.outcomes.specs.Wrote.{Wrote};
 ghost use Rattle.listing.specs.AtFront.{AtFront};
-ghost use Rattle.listing.specs.Auditing.{mostName, auditRoom, named, notReadLine, nameIn, Audits};
+ghost use Rattle.listing.specs.Auditing.{mostName, auditRoom, nameIn, notReadLine, auditLine, Audits};
 use crate::lines;
 use crate::text::byte;
 use bits::at_most;
@@ -16,7 +16,7 @@ use card::Refusal;
 use card::Verdict;
 use outcomes::MOST_CARD_BYTES;
 
-// The most bytes of a file's name. Linux hands a program no longer argument.
+// No name is longer: Linux hands a program no argument of so many bytes.
 pub const MOST_NAME: usize = 131072;
 
 // No line is longer: a name, a space, and the line of a refusal, which has at most 36 bytes.
@@ -28,27 +28,35 @@ pub struct Audited {
     pub passed: usize,
 }
 
-// A space after the name, which stands at the front of the output; `name` is its length, here and below. The place after the space.
-fn space(output: &mut [u8], name: usize) -> usize
+// A space after the name, which stands at the front of the output and has this size: the place after it.
+fn space(output: &mut [u8], size: usize) -> usize
     requires { ⌜ auditRoom ≤ length (now output) ⌝ }
-    ensures { λ r. ⌜ Wrote (now (output .entry)) (min name mostName) (text " ") (now (output .exit)) r ⌝ }
+    ensures { λ r. ⌜ Wrote (now (output .entry)) (min size mostName) (text " ") (now (output .exit)) r ⌝ }
 {
-    byte(output, at_most(name, MOST_NAME), b' ')
+    byte(output, at_most(size, MOST_NAME), b' ')
 }
 
-fn too_long(output: &mut [u8], name: usize) -> usize
+fn not_read(output: &mut [u8], size: usize) -> usize
     requires { ⌜ auditRoom ≤ length (now output) ⌝ }
-    ensures { λ r. ⌜ AtFront auditRoom (named (nameIn (now (output .entry)) name) tooLongLine) (now (output .entry)) r (now (output .exit)) ⌝ }
+    ensures { λ r. ⌜ AtFront auditRoom (auditLine (nameIn (now (output .entry)) size) notReadLine) (now (output .entry)) r (now (output .exit)) ⌝ }
 {
-    let at = space(output, name);
+    let at = space(output, size);
+    lines::not_read(output, at)
+}
+
+fn too_long(output: &mut [u8], size: usize) -> usize
+    requires { ⌜ auditRoom ≤ length (now output) ⌝ }
+    ensures { λ r. ⌜ AtFront auditRoom (auditLine (nameIn (now (output .entry)) size) tooLongLine) (now (output .entry)) r (now (output .exit)) ⌝ }
+{
+    let at = space(output, size);
     lines::too_long(output, at)
 }
 
-fn refused(output: &mut [u8], name: usize, refusal: Refusal, offset: usize) -> usize
+fn refused(output: &mut [u8], size: usize, refusal: Refusal, offset: usize) -> usize
     requires { ⌜ auditRoom ≤ length (now output) ⌝ }
-    ensures { λ r. ⌜ AtFront auditRoom (named (nameIn (now (output .entry)) name) (refusedLine (numberOf refusal) offset)) (now (output .entry)) r (now (output .exit)) ⌝ }
+    ensures { λ r. ⌜ AtFront auditRoom (auditLine (nameIn (now (output .entry)) size) (refusedLine (numberOf refusal) offset)) (now (output .entry)) r (now (output .exit)) ⌝ }
 {
-    let at = space(output, name);
+    let at = space(output, size);
     lines::refused(output, at, refusal, offset)
 }
 
@@ -59,12 +67,16 @@ fn told(count: usize) -> Audited
     Audited { count, passed: 0 }
 }
 
-// A file of these bytes: its line at the front of the output, after its name, if its card does not pass.
-pub fn audit(bytes: &[u8], output: &mut [u8; AUDIT_ROOM], name: usize) -> Audited
-    ensures { λ r. ⌜ Audits (now (bytes .entry)) (now (output .entry)) name r (now (output .exit)) ⌝ }
+// A file, by whether it was read to its end and by its bytes. Its name, of this size, stands at the front of the output: if it does not pass, its line is
+// there afterwards.
+pub fn audit(whole: bool, bytes: &[u8], output: &mut [u8; AUDIT_ROOM], size: usize) -> Audited
+    ensures { λ r. ⌜ Audits whole (now (bytes .entry)) (now (output .entry)) size r (now (output .exit)) ⌝ }
 {
+    if !whole {
+        return told(not_read(output, size));
+    }
     if MOST_CARD_BYTES < bytes.len() {
-        return told(too_long(output, name));
+        return told(too_long(output, size));
     }
     let read = card::read_card(CardRule::Present, bytes);
     let verdict = read.verdict;
@@ -73,16 +85,8 @@ pub fn audit(bytes: &[u8], output: &mut [u8; AUDIT_ROOM], name: usize) -> Audite
             count: 0,
             passed: 1,
         },
-        Verdict::Refused { refusal, offset } => told(refused(output, name, refusal, offset)),
+        Verdict::Refused { refusal, offset } => told(refused(output, size, refusal, offset)),
     }
-}
-
-// A file that could not be read, likewise.
-pub fn not_read(output: &mut [u8; AUDIT_ROOM], name: usize) -> Audited
-    ensures { λ r. ⌜ AtFront auditRoom (named (nameIn (now (output .entry)) name) notReadLine) (now (output .entry)) (r .count) (now (output .exit)) × (r .passed ≡ 0) ⌝ }
-{
-    let at = space(output, name);
-    told(lines::not_read(output, at))
 }
 
 // The last line: the count of those that pass.

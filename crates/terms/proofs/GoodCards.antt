@@ -20,7 +20,7 @@ use Rattle.card.specs.declared.CardRule.{CardRule}
 use Rattle.card.specs.declared.CardRule.the-variants.{Former, Present}
 use Rattle.card.proofs.Defaults.{stated-most, default-stated, stated-default, none-changes}
 use Rattle.card.proofs.Stores.{noStream, masks-in-list, stream-in-list}
-use Rattle.terms.specs.Terms.{Masks, Stands, WithinLimits, OrthogonalChecks, GoodCard, CardRead}
+use Rattle.terms.specs.Terms.{Masks, Stands, WithinLimits, OrthogonalChecks, AtMost, GoodCard, CardRead}
 
 -- ---- masks and streams, said along the list and place by place
 module _ (p m : ℕ) where
@@ -160,8 +160,7 @@ module _ (rule : CardRule) {bytes : List ℕ} {f : Fields} where
   acceptable g = record { limits = in-limits f rule (g .limits); orthogonal = orthogonal (cardOf f) (g .orthogonal); bytes-are = g .bytes-are }
 
   -- with another limit, if every stream's J is within it
-  pub good-within : {most : ℕ} (other : ℕ) → GoodCard rule most bytes f → ((i : ℕ) → i < f .head .k → getD (f .streams) i noStream .count ≤ other)
-      → GoodCard rule other bytes f
+  good-within : {most : ℕ} (other : ℕ) → GoodCard rule most bytes f → AtMost other f → GoodCard rule other bytes f
   good-within other g few =
       let w = g .limits in
       record {
@@ -199,6 +198,6 @@ card-read rule promise =
       was-good = λ v.
           let a = promise .only-these v in
           let g = good rule (a .1 .acceptable) in
-          (a .0, good-within rule 16 g (λ i h. omega (arith, g .limits .J-in-range i h .1)));
+          (a .0, (good-within rule 16 g (λ i h. omega (arith, g .limits .J-in-range i h .1)), λ i h. g .limits .J-in-range i h .1));
       one-form = λ other small v w. let both = promise .one-form other small v w in (both .equal-bytes, both .equal-values);
     }

@@ -7,7 +7,7 @@
 -- Assumes nothing.
 use Prim.Native.Nat.{ℕ, zero, suc, _+_, _-_, _*_, _%_, _^_, _≤_, _<_, min, max}
 use mathlib.Core.Path.{_≡_}
-use mathlib.Core.Bool.{Bool, false, cond, not, _&&_, _||_}
+use mathlib.Core.Bool.{Bool, true, false, cond, not, _&&_, _||_}
 use mathlib.Core.List.{List, [], _∷_, _++_, map}
 use lib.ListN.{length, getD, take, drop}
 use lib.Dec.{leb, ltb, eqb}
@@ -301,6 +301,10 @@ pub record OrthogonalChecks (c : Card) : Type 0 where
   pub no-other-by-two : (i q r b s : ℕ) → i < c .k → q < r → r < count c i → b ≤ c .m → s < c .k + c .p → touches c i q b s ≡ 1 → touches c i r b s ≡ 1
       → (b ≡ 0) × (s ≡ i)
 
+-- no stream has more checks
+abbrev pub AtMost : ℕ → Fields → Type 0
+AtMost most f = (i : ℕ) → i < f .head .k → getD (f .streams) i noStream .count ≤ most
+
 -- its bytes are the fields of a card and nothing more, within the limits, and its checks are truly orthogonal
 pub record GoodCard (rule : CardRule) (most : ℕ) (bytes : List ℕ) (f : Fields) : Type 0 where
   pub bytes-are : bytes ≡ layout f
@@ -308,16 +312,18 @@ pub record GoodCard (rule : CardRule) (most : ℕ) (bytes : List ℕ) (f : Field
   pub orthogonal : OrthogonalChecks (cardOf f)
 
 -- what reading a card's bytes under a rule comes to. R-13: "The largest J in use is 10. Make it the limit in place of 16, in R-4's program too", so under
--- either rule a stream has at most ten checks; "No accepted card is then longer than 755 bytes". Nothing else changes: a card that was good with at most
--- sixteen is good if it has at most ten, and no other is
+-- either rule a stream has at most ten checks
 pub record CardRead (rule : CardRule) (bytes : List ℕ) (read : CardOutcome) : Type 0 where
   -- number and offset of the first fault
   pub is-read : read ≡ readUnder rule bytes
   pub only-good : read .outcome ≡ accepted → (f : Fields) × (GoodCard rule 10 bytes f × (read .card ≡ cardOf f))
   pub every-good : (f : Fields) → GoodCard rule 10 bytes f → read .outcome ≡ accepted
+  -- "No accepted card is then longer than 755 bytes"
   pub length-most : read .outcome ≡ accepted → length bytes ≤ 755
-  pub still-good : (f : Fields) → GoodCard rule 16 bytes f → ((i : ℕ) → i < f .head .k → getD (f .streams) i noStream .count ≤ 10) → read .outcome ≡ accepted
-  pub was-good : read .outcome ≡ accepted → (f : Fields) × GoodCard rule 16 bytes f
+  -- nothing else changed: of the cards with at most ten checks a stream, those are accepted that were good when there could be sixteen. (Of others `GoodCard`
+  -- with sixteen says nothing: the tables of `cardOf` have room for ten.)
+  pub still-good : (f : Fields) → GoodCard rule 16 bytes f → AtMost 10 f → read .outcome ≡ accepted
+  pub was-good : read .outcome ≡ accepted → (f : Fields) × (GoodCard rule 16 bytes f × AtMost 10 f)
   -- R-4: "equal cards, the order of checks included, means equal bytes"
   pub one-form : (other : List ℕ) → ((i : ℕ) → getD other i 0 < 256) → readCard bytes .outcome ≡ accepted → readCard other .outcome ≡ accepted
       → (readCard bytes .card ≡ readCard other .card → bytes ≡ other) × (bytes ≡ other → readCard bytes .card ≡ readCard other .card)
@@ -381,19 +387,15 @@ pub record StandardCard (J : ℕ) (output : List ℕ) (answer : ℤ) (after : Li
 
 -- ==== R-13: an audit of stored card files
 
--- the line of a file, whose name stands at the front of the output: "for each refused one its name, a space and the listing's refusal line, with `input too
--- long` above 2,048 bytes"; and what it adds to "the count that pass"
-pub record Audited (name bytes output : List ℕ) (n passed : ℕ) (after : List ℕ) : Type 0 where
+-- a file that was read to its end, or not, and has these bytes; its name stands at the front of the output. "for each refused one its name, a space and the
+-- listing's refusal line, with `input too long` above 2,048 bytes and `not read` where reading fails"; and what it adds to "the count that pass"
+pub record Audited (whole : Bool) (bytes name output : List ℕ) (n passed : ℕ) (after : List ℕ) : Type 0 where
   pub rest-kept : drop n after ≡ drop n output
-  pub too-long : 2048 < length bytes → (take n after ≡ name ++ text " input too long\n") × (passed ≡ 0)
-  pub card-refused : (number offset : ℕ) → length bytes ≤ 2048 → readCard bytes .outcome ≡ refused number offset
+  pub not-read : whole ≡ false → (take n after ≡ name ++ text " not read\n") × (passed ≡ 0)
+  pub too-long : whole ≡ true → 2048 < length bytes → (take n after ≡ name ++ text " input too long\n") × (passed ≡ 0)
+  pub card-refused : (number offset : ℕ) → whole ≡ true → length bytes ≤ 2048 → readCard bytes .outcome ≡ refused number offset
       → (take n after ≡ name ++ (text " refused " ++ (decimal number ++ (text " at " ++ (decimal offset ++ text "\n"))))) × (passed ≡ 0)
-  pub card-passes : readCard bytes .outcome ≡ accepted → (n ≡ 0) × (passed ≡ 1)
-
--- "`not read` where reading fails"
-pub record NotRead (name output : List ℕ) (n passed : ℕ) (after : List ℕ) : Type 0 where
-  pub rest-kept : drop n after ≡ drop n output
-  pub told : (take n after ≡ name ++ text " not read\n") × (passed ≡ 0)
+  pub card-passes : whole ≡ true → readCard bytes .outcome ≡ accepted → (n ≡ 0) × (passed ≡ 1)
 
 -- "and last `end` and the count that pass"
 pub record AuditEnds (passed : ℕ) (output : List ℕ) (n : ℕ) (after : List ℕ) : Type 0 where

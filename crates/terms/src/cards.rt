@@ -46,16 +46,11 @@ pub fn rewrite(input: &[u8], output: &mut [u8; REWRITING_ROOM]) -> usize
     listing::rewriting::rewrite(input, output)
 }
 
-pub fn audit(bytes: &[u8], output: &mut [u8; AUDIT_ROOM], name: usize) -> Audited
-    ensures { λ r. ⌜ term.Audited (take (min name 131072) (now (output .entry))) (now (bytes .entry)) (now (output .entry)) (r .count) (r .passed) (now (output .exit)) ⌝ }
+// No name is longer than 131,072 bytes (`listing/Auditing: mostName`).
+pub fn audit(whole: bool, bytes: &[u8], output: &mut [u8; AUDIT_ROOM], size: usize) -> Audited
+    ensures { λ r. ⌜ term.Audited whole (now (bytes .entry)) (take (min size 131072) (now (output .entry))) (now (output .entry)) (r .count) (r .passed) (now (output .exit)) ⌝ }
 {
-    auditing::audit(bytes, output, name)
-}
-
-pub fn audit_not_read(output: &mut [u8; AUDIT_ROOM], name: usize) -> Audited
-    ensures { λ r. ⌜ term.NotRead (take (min name 131072) (now (output .entry))) (now (output .entry)) (r .count) (r .passed) (now (output .exit)) ⌝ }
-{
-    auditing::not_read(output, name)
+    auditing::audit(whole, bytes, output, size)
 }
 
 pub fn audit_end(output: &mut [u8; AUDIT_ROOM], passed: usize) -> usize

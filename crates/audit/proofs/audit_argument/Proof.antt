@@ -1,5 +1,4 @@
 use mathlib.Core.Path.{sym}
-use native.Mathlib.Omega.{arith}
 use lib.Seq.{length-take-le}
 use Rattle.listing.proofs.AtFront.{front-within}
 use Rattle.listing.proofs.Audited.{passed-most}
@@ -20,19 +19,13 @@ array-share-prefix-buffer : tie.Need-array-share-prefix-buffer
 array-share-prefix-buffer c = search needs
 
 slice-aggregate-audit : tie.Need-slice-aggregate-audit
-slice-aggregate-audit c = sym (length-take-le _ _ (c .before .before .before .read-file .ensures))
+slice-aggregate-audit c = sym (length-take-le _ _ (c .before .before .read-file .ensures))
 
 audit-requires : tie.Need-audit-requires
 audit-requires c κs = search needs
 
-not-read-requires : tie.Need-not-read-requires
-not-read-requires c κs = search needs
-
 returns : tie.Need-returns
 returns c = let promise = c .audit .ensures in (front-within (promise .told), passed-most promise)
-
-returns-2 : tie.Need-returns-2
-returns-2 c = let promise = c .not-read .ensures in (front-within (promise .0), omega (arith, promise .1))
 
 pub audit-argument-spec : {M : Type 1} → statement M
 audit-argument-spec =
@@ -44,6 +37,4 @@ audit-argument-spec =
     array-share-prefix-buffer
     slice-aggregate-audit
     audit-requires
-    not-read-requires
-    returns
-    returns-2)
+    returns)

@@ -5,7 +5,7 @@ use Rattle.audit.proofs.read_file.Statement.{statement}
 use Rattle.audit.proofs.read_file.Tie as tie
 
 slice-aggregate-open-read : tie.Need-slice-aggregate-open-read
-slice-aggregate-open-read c = let start = c .before .before .before in sym (length-take-le (start .args .name) (start .args .named .now) (start .pre))
+slice-aggregate-open-read c = let start = c .before .before .before in sym (length-take-le (start .args .size) (start .args .named .now) (start .pre))
 
 open-read-requires : tie.Need-open-read-requires
 open-read-requires c κs = search needs

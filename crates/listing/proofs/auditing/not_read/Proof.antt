@@ -1,5 +1,5 @@
 use native.Mathlib.Omega.{arith}
-use Rattle.listing.proofs.Audited.{room-after, named-front, told-as}
+use Rattle.listing.proofs.Audited.{room-after, line-front, not-read-told}
 use borrow.Author.Needs.{needs}
 use Rattle.listing.proofs.auditing.not_read.Statement.{statement}
 use Rattle.listing.proofs.auditing.not_read.Tie as tie
@@ -9,17 +9,17 @@ space-requires c κs = search needs
 
 not-read-requires : tie.Need-not-read-requires
 not-read-requires c κs =
-    let start = c .before .before .before in
-    omega (arith, room-after (start .args .output .now) (start .args .name) (search needs) (c .before .space .ensures))
+    let start = c .before .before .before .before .before .before in
+    omega (arith, room-after (start .args .output .now) (start .args .size) (start .pre) (c .before .before .before .space .ensures))
 
-told-requires : tie.Need-told-requires
-told-requires c κs = search needs
+same-length : tie.Need-same-length
+same-length c = search needs
 
 returns : tie.Need-returns
 returns c =
-    let start = c .before .before .before .before .before in
-    told-as (c .told .ensures)
-    (named-front (start .args .output .now) (start .args .name) (search needs) _ (c .before .before .before .space .ensures) (c .before .not-read .ensures) (omega arith))
+    let start = c .before .before .before .before .before .before .before .before .before in
+    line-front (start .args .output .now) (start .args .size) (start .pre) _ (not-read-told _)
+    (c .before .before .before .before .before .before .space .ensures) (c .before .before .not-read .ensures) (omega arith)
 
 pub not-read-spec : {M : Type 1} → statement M
-not-read-spec = tie.close (tie.spec space-requires not-read-requires told-requires returns)
+not-read-spec = tie.close (tie.spec space-requires not-read-requires same-length returns)

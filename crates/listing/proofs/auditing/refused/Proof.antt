@@ -1,5 +1,5 @@
 use native.Mathlib.Omega.{arith}
-use Rattle.listing.proofs.Audited.{room-after, named-front}
+use Rattle.listing.proofs.Audited.{room-after, line-front, refused-told}
 use borrow.Author.Needs.{needs}
 use Rattle.listing.proofs.auditing.refused.Statement.{statement}
 use Rattle.listing.proofs.auditing.refused.Tie as tie
@@ -10,7 +10,7 @@ space-requires c κs = search needs
 refused-requires : tie.Need-refused-requires
 refused-requires c κs =
     let start = c .before .before .before .before .before .before in
-    omega (arith, room-after (start .args .output .now) (start .args .name) (start .pre) (c .before .before .before .space .ensures))
+    omega (arith, room-after (start .args .output .now) (start .args .size) (start .pre) (c .before .before .before .space .ensures))
 
 same-length : tie.Need-same-length
 same-length c = search needs
@@ -18,8 +18,8 @@ same-length c = search needs
 returns : tie.Need-returns
 returns c =
     let start = c .before .before .before .before .before .before .before .before .before in
-    named-front (start .args .output .now) (start .args .name) (start .pre) _ (c .before .before .before .before .before .before .space .ensures)
-    (c .before .before .refused .ensures) (omega arith)
+    line-front (start .args .output .now) (start .args .size) (start .pre) _ (refused-told _ _ _)
+    (c .before .before .before .before .before .before .space .ensures) (c .before .before .refused .ensures) (omega arith)
 
 pub refused-spec : {M : Type 1} → statement M
 refused-spec = tie.close (tie.spec space-requires refused-requires same-length returns)

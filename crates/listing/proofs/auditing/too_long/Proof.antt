@@ -1,5 +1,5 @@
 use native.Mathlib.Omega.{arith}
-use Rattle.listing.proofs.Audited.{room-after, named-front}
+use Rattle.listing.proofs.Audited.{room-after, line-front, too-long-told}
 use borrow.Author.Needs.{needs}
 use Rattle.listing.proofs.auditing.too_long.Statement.{statement}
 use Rattle.listing.proofs.auditing.too_long.Tie as tie
@@ -10,7 +10,7 @@ space-requires c κs = search needs
 too-long-requires : tie.Need-too-long-requires
 too-long-requires c κs =
     let start = c .before .before .before .before .before .before in
-    omega (arith, room-after (start .args .output .now) (start .args .name) (start .pre) (c .before .before .before .space .ensures))
+    omega (arith, room-after (start .args .output .now) (start .args .size) (start .pre) (c .before .before .before .space .ensures))
 
 same-length : tie.Need-same-length
 same-length c = search needs
@@ -18,8 +18,8 @@ same-length c = search needs
 returns : tie.Need-returns
 returns c =
     let start = c .before .before .before .before .before .before .before .before .before in
-    named-front (start .args .output .now) (start .args .name) (start .pre) _ (c .before .before .before .before .before .before .space .ensures)
-    (c .before .before .too-long .ensures) (omega arith)
+    line-front (start .args .output .now) (start .args .size) (start .pre) _ (too-long-told _)
+    (c .before .before .before .before .before .before .space .ensures) (c .before .before .too-long .ensures) (omega arith)
 
 pub too-long-spec : {M : Type 1} → statement M
 too-long-spec = tie.close (tie.spec space-requires too-long-requires same-length returns)
