@@ -76,11 +76,11 @@ def limits():
         given[f"card P and zeros, {length} bytes"] = P.bytes(True, True).ljust(length, b"\0")
         given[f"{length} bytes above 3"] = b"\xff" * length
     given["the longest card"] = LONGEST.bytes()
-    for how, stated in STATED.items():
-        given["ten checks" + how] = TEN_CHECKS.bytes(*stated)
-        given["eleven checks" + how] = ELEVEN_CHECKS.bytes(*stated)
+    for how, stated in {"": False, ", k stated": True}.items():
+        given["ten checks" + how] = TEN_CHECKS.bytes(stated)
+        given["eleven checks" + how] = ELEVEN_CHECKS.bytes(stated)
         assert rewriting(given["ten checks" + how]) == TEN_CHECKS.bytes()
-        assert rewriting(given["eleven checks" + how]) == b"refused 7 at %d\n" % (34 + stated[0])
+        assert rewriting(given["eleven checks" + how]) == b"refused 7 at %d\n" % (34 + stated)
     for length in (LONGEST_READ, LONGEST_READ + 1):
         given[f"the longest card and zeros, {length} bytes"] = LONGEST.bytes().ljust(length, b"\0")
     return given

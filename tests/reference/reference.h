@@ -37,7 +37,7 @@ enum {
     MOST_CHECKS = 10,     /* J */
     LEAST_CARD_BYTES = 15, /* one generator and one check of one mask: with less no check touches its own digit */
     MOST_CARD_BYTES = 755,
-    MOST_STORED_BYTES = 2048, /* of a card to be rewritten */
+    MOST_STORED_BYTES = 2048, /* of a stored card that a program reads */
     MOST_FRAMES = 1048576,
     LEAST_STANDARD_CHECKS = 2, /* J of standard cards */
     MOST_STANDARD_CHECKS = 7,

@@ -61,7 +61,7 @@ fn checks(draft: Draft, table: &[u8], i: u8) -> Draft {
 // J, the most there may be, and the checks of an information stream.
 fn stream(draft: Draft, i: u8) -> Draft {
     checks(
-        drafts::byte(draft, 10),
+        drafts::byte(draft, code::MOST_CHECKS as u8),
         b"\x00\x17\x36\x51\xff\
           \x0f\x28\x35\x3a\xff\
           \x01\x0c\x3b\x46\xff\
