@@ -13,7 +13,7 @@ import tempfile
 import threading
 
 sys.dont_write_bytecode = True
-from running import at_once, by_the_byte, difference, run
+from running import at_once, by_the_byte, faults, run
 from reference import LONGEST_READ, P, audit
 from cards import cards, limits, stored
 
@@ -26,12 +26,8 @@ FEW_DESCRIPTORS = 64
 failures = []
 
 
-def hold(what, came, wanted, should_say=b""):
-    wrote, said = came
-    if wrote != wanted:
-        failures.append(f"{what}: {difference(wrote, wanted)}")
-    if said != should_say:
-        failures.append(f"{what}: standard error has {said.decode(errors='replace')!r}, and should have {should_say.decode()!r}")
+def hold(*run):
+    failures.extend(faults(*run))
 
 
 def hold_files(what, program, files, **how):

@@ -8,7 +8,7 @@ import random
 import sys
 
 sys.dont_write_bytecode = True
-from running import SAMPLES, at_once, by_the_byte, difference, run
+from running import SAMPLES, at_once, by_the_byte, faults, run
 from cards import ELEVEN_CHECKS, LONGEST, TEN_CHECKS
 from reference import LONGEST_READ, P, Q, R, T, Card, framed, listing
 
@@ -88,12 +88,8 @@ def main():
     wanted.update((name, listing(given)) for name, given in {**limits, **refused}.items())
     failures = []
 
-    def hold(name, came, listed, should_say=b""):
-        wrote, said = came
-        if wrote != listed:
-            failures.append(f"{name}: {difference(wrote, listed)}")
-        if said != should_say:
-            failures.append(f"{name}: standard error has {said.decode(errors='replace')!r}, and should have {should_say.decode()!r}")
+    def hold(*run):
+        failures.extend(faults(*run))
 
     for name, given in {**samples, **limits, **refused}.items():
         hold(name, run(program, at_once(given)), wanted[name])

@@ -47,6 +47,15 @@ def run(program, stdin, stdout=subprocess.PIPE, arguments=(), **how):
     return wrote, ended.stderr
 
 
+def faults(what, came, wanted, should_say=b""):
+    """What is wrong with what came of a run, which wrote and said this on standard error: a text for each."""
+    wrote, said = came
+    if wrote != wanted:
+        yield f"{what}: {difference(wrote, wanted)}"
+    if said != should_say:
+        yield f"{what}: standard error has {said.decode(errors='replace')!r}, and should have {should_say.decode()!r}"
+
+
 def difference(wrote, wanted):
     """The first line in which they differ."""
     wrote, wanted = wrote.split(b"\n"), wanted.split(b"\n")
