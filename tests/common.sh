@@ -45,7 +45,7 @@ viterbi() {
 
 compile_trace_driver() {
     local sources
-    sources=$(echo tests/drivers/trace/{trace_driver,counts,making,stream,records,openings,running,comparing,trace}.c)
+    sources=$(echo tests/drivers/trace/{trace_driver,making,records,running,comparing,trace}.c)
     $compiler $flags -O2 -g $(sanitizers) $sources tests/inputs/cards.c $reference -lm -o "$built/trace_driver"
 }
 

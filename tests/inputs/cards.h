@@ -94,6 +94,6 @@ size_t without_defaults(const uint8_t *card, size_t length, uint8_t *bytes);
 /* Whether a card can be refused with this number: 1 to 10, and 18. */
 int refuses_cards(int number);
 
-enum { HIGHEST_REFUSAL = 19 };
+enum { HIGHEST_REFUSAL = 18 };
 
 #endif

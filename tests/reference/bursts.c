@@ -50,10 +50,9 @@ static int32_t receive_burst(enum circuit circuit, const uint8_t *card_bytes, si
         return -OUTPUT_TOO_SHORT;
     struct frame *received = allocate(input_length, sizeof *received);
     struct frame *decided = allocate(count, sizeof *decided);
-    struct weights weights = reference_plain_weights();
     refusal = frames_of_bytes(input, input_length, card.n, received);
     for (size_t u = 0; u < count && !refusal; u++) {
-        struct frame out = decide(circuit, &card, &weights, received, decided, (long)u);
+        struct frame out = decide(circuit, &card, received, decided, (long)u);
         output[u] = byte_of_frame(&out);
     }
     free(received);

@@ -33,30 +33,23 @@ int has_vote(const struct fields *card, const struct frame *received, int i, int
     return !touches_erased(card, &check, received, i, u);
 }
 
-/* ---- The first circuit (document 01; weighted, document 02, R-8) ---- */
-
-/* The decided error of digit i at u. With the plain weights, "twice the number of checks equal to 1 is more than J". */
-static int error_by_votes(const struct fields *card, const struct weights *weights, const struct frame *received,
-                          const struct frame *decided, int i, long u)
-{
-    long all = 0, ones = 0;
-    for (int q = 1; q <= card->J[i]; q++)
-        if (has_vote(card, received, i, q, u)) {
-            all += weights->check[i][q];
-            ones += weights->check[i][q] * check_at(card, received, decided, i, q, u);
-        }
-    return 2 * ones > weights->w0 + all ? 1 : 0;
-}
+/* ---- The first circuit (document 01) ---- */
 
 /* Decides the errors of frame u, all streams from the errors of earlier frames only, and gives the frame handed out. */
-static struct frame decide_errors(const struct fields *card, const struct weights *weights,
-                                  const struct frame *received, struct frame *decided, long u)
+static struct frame decide_errors(const struct fields *card, const struct frame *received, struct frame *decided,
+                                  long u)
 {
     struct frame out;
     memset(&out, 0, sizeof out);
     memset(&decided[u], 0, sizeof decided[u]);
     for (int i = 1; i <= card->k; i++) {
-        decided[u].digit[i] = error_by_votes(card, weights, received, decided, i, u);
+        int votes = 0, ones = 0;
+        for (int q = 1; q <= card->J[i]; q++)
+            if (has_vote(card, received, i, q, u)) {
+                votes++;
+                ones += check_at(card, received, decided, i, q, u);
+            }
+        decided[u].digit[i] = 2 * ones > votes ? 1 : 0;
         out.digit[i] = (received[u].digit[i] + decided[u].digit[i]) % 2;
     }
     return out;
@@ -122,9 +115,8 @@ static struct frame decide_digits(const struct fields *card, const struct frame 
 
 /* ---- Both circuits ---- */
 
-struct frame decide(enum circuit circuit, const struct fields *card, const struct weights *weights,
-                    const struct frame *received, struct frame *decided, long u)
+struct frame decide(enum circuit circuit, const struct fields *card, const struct frame *received,
+                    struct frame *decided, long u)
 {
-    return circuit == TYPE_I ? decide_errors(card, weights, received, decided, u)
-                             : decide_digits(card, received, decided, u);
+    return circuit == TYPE_I ? decide_errors(card, received, decided, u) : decide_digits(card, received, decided, u);
 }

@@ -47,8 +47,8 @@ int touches_erased(const struct fields *card, const struct touched *check, const
 /* Whether check q on digit i at u votes (document 02, R-6). */
 int has_vote(const struct fields *card, const struct frame *received, int i, int q, long u);
 
-/* Decides frame u and gives the frame handed out. The weights are the first circuit's: by the second all votes are equal. */
-struct frame decide(enum circuit circuit, const struct fields *card, const struct weights *weights,
-                    const struct frame *received, struct frame *decided, long u);
+/* Decides frame u and gives the frame handed out. */
+struct frame decide(enum circuit circuit, const struct fields *card, const struct frame *received,
+                    struct frame *decided, long u);
 
 #endif

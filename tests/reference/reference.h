@@ -17,8 +17,6 @@
  * before, and that beside the mark 'erased' no level is looked at, the author was told.
  * That J is at most ten (document 02, R-13) was added by an author who had not looked at the library's code, from that
  * document's paragraph.
- * Weighted votes (document 02, R-8) were added by an author who had not looked at the library's code, from that document's
- * paragraph. The condition's two inequalities the author was told as well, in a form without a difference.
  *
  * It is made to be read, not to be fast. A digit is an int that is 0 or 1, a sum of digits is a
  * sum with one `% 2` at its end, and a stream keeps every frame from time 0 on: no masks, no
@@ -37,9 +35,6 @@ enum {
     MOST_PARITY = 7,      /* p = n - k, k at least 1 */
     MOST_MEMORY = 31,     /* m */
     MOST_CHECKS = 10,     /* J */
-    MOST_CHECK_WEIGHTS = MOST_INFORMATION * MOST_CHECKS,
-    SIXTEENTHS = 16, /* of a weight of 1: weights are counted in them */
-    MOST_WEIGHT = 4096 * SIXTEENTHS,
     LEAST_CARD_BYTES = 15, /* one generator and one check of one mask: with less no check touches its own digit */
     MOST_CARD_BYTES = 755,
     MOST_STORED_BYTES = 2048, /* of a stored card that a program reads */
@@ -49,7 +44,7 @@ enum {
     MOST_STANDARD_CARD_BYTES = 45
 };
 
-/* The refusals: document 01's two lists, and those of document 02's. */
+/* The refusals: document 01's two lists, and the last of document 02's R-4. */
 enum refusal {
     ENDS_INSIDE_FIELD = 1,
     K_OUTSIDE_RANGE = 2,
@@ -68,8 +63,7 @@ enum refusal {
     FRAMES_USED_UP = 15,
     INFORMATION_AFTER_TAIL = 16,
     TAIL_USED_UP = 17,
-    DEFAULT_STATED = 18,
-    WEIGHT_OUTSIDE_RANGE = 19 /* or no multiple of a sixteenth */
+    DEFAULT_STATED = 18
 };
 
 /* What a link card says. */
@@ -125,24 +119,6 @@ enum circuit {
     TYPE_II /* document 02's R-2: they vote on the digit itself, from received digits; no link figure */
 };
 
-/* The weights of the votes (document 02, R-8), in sixteenths. */
-struct weights {
-    long w0; /* of the digit itself, in every stream */
-    long check[MOST_INFORMATION + 1][MOST_CHECKS + 1]; /* of check q of stream i at [i][q] */
-};
-
-/* The record that a weighted session is opened with, each f32 as its bits: the checks' weights stream by stream in check
- * order without gaps. Places beyond the card's checks are not looked at. */
-struct weight_record {
-    uint32_t w0, check[MOST_CHECK_WEIGHTS];
-};
-
-/* Gives 19, or 0 for no refusal. */
-int reference_read_weights(const struct weight_record *record, const struct fields *card, struct weights *weights);
-
-/* Those with which a weighted session is the plain one: w0 is 0 and every other 1. */
-struct weights reference_plain_weights(void);
-
 /* The bursts, called as the library's are. */
 int32_t reference_burst_send(const uint8_t *card, size_t card_length, const uint8_t *input, size_t input_length,
                              uint8_t *output, size_t output_length);
@@ -159,20 +135,6 @@ int32_t reference_burst_receive_by_digits(const uint8_t *card, size_t card_lengt
  * stands if the digit of stream s is; what `received` has in its place is not looked at. */
 int reference_correctable(const struct fields *card, const uint8_t *sent, const uint8_t *received,
                           const uint8_t *erased, long count);
-
-/* The same of a weighted session, by document 02's R-8: 1 if for each of these digits twice the hit weight is at most
- * W + w0 where the digit itself is right, and less than W - w0 where it is wrong. */
-int reference_correctable_weighted(const struct fields *card, const struct weights *weights, const uint8_t *sent,
-                                   const uint8_t *received, const uint8_t *erased, long count);
-
-/* What that condition speaks of, for digit i at u. */
-struct hit {
-    int own_wrong;
-    long weight, all; /* of the voting checks that touch a wrong digit besides their own, and of all that vote: W */
-};
-
-struct hit reference_hit(const struct fields *card, const struct weights *weights, const uint8_t *sent,
-                         const uint8_t *received, const uint8_t *erased, int i, long u);
 
 /* Of a stream with these digits erased, the number of checks on digit i at u that vote. */
 int reference_votes(const struct fields *card, const uint8_t *erased, int i, long u);
@@ -192,7 +154,6 @@ struct reading {
 struct receiving {
     enum circuit circuit;
     struct fields card;
-    struct weights weights; /* the plain ones, but in a weighted session */
     struct frame *received, *decided; /* from time 0; decided for the frames handed out only, errors or digits */
     long count, room;                 /* frames received */
 };
@@ -205,8 +166,6 @@ struct sending {
 };
 
 void reference_open_receiving(struct receiving *session, enum circuit circuit, const struct fields *card);
-/* A weighted session, of the first circuit. Gives 19, or 0 for no refusal; refused, there is none to be closed. */
-int reference_open_weighted(struct receiving *session, const struct fields *card, const struct weight_record *record);
 struct answer reference_receive_byte(struct receiving *session, int number, uint8_t byte);
 struct answer reference_receive_readings(struct receiving *session, int number, const struct reading readings[8]);
 long reference_link_figure(const struct receiving *session); /* of the first circuit */

@@ -32,13 +32,6 @@ void reference_open_receiving(struct receiving *session, enum circuit circuit, c
     memset(session, 0, sizeof *session);
     session->circuit = circuit;
     session->card = *card;
-    session->weights = reference_plain_weights();
-}
-
-int reference_open_weighted(struct receiving *session, const struct fields *card, const struct weight_record *record)
-{
-    reference_open_receiving(session, TYPE_I, card);
-    return reference_read_weights(record, card, &session->weights);
 }
 
 void reference_close_receiving(struct receiving *session)
@@ -70,8 +63,7 @@ static struct answer take(struct receiving *session, const struct frame *frame)
         struct answer waiting = {WAITING, 0};
         return waiting;
     }
-    struct frame out =
-        decide(session->circuit, &session->card, &session->weights, session->received, session->decided, u);
+    struct frame out = decide(session->circuit, &session->card, session->received, session->decided, u);
     return frame_given(&out);
 }
 

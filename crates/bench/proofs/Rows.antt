@@ -7,7 +7,7 @@ use Rattle.code.specs.Checks.{count, check_mask, touches_info, touches_by, besid
 use Rattle.code.specs.Judging.{clashes, judge}
 use Rattle.card.specs.Fields.{store, store_rows, store_checks, store_streams, store_counts, card_of}
 use Rattle.card.specs.Reading.{byte_field, standing_field, k_field, n_field, map_field, word_at, mask_field, read_head, standing_mask, read_masks, read_rows, read_generators, touched_by, read_check, read_checks, read_streams, read_fields, read_under}
-use Rattle.majority.specs.Rule.{syndrome, cleared, check_at, voting, weight_of, voting_weight, ones_weight, decide, decide_frame, decided, corrected, decoded}
+use Rattle.majority.specs.Rule.{syndrome, cleared, check_at, voting, voters, votes, decide, decide_frame, decided, corrected, decoded}
 use Rattle.majority.proofs.Erased.{erased-rows}
 use Rattle.receiving.specs.Calls.{answers_by}
 use Rattle.receiving.proofs.LevelRows.{level-rows}
@@ -17,7 +17,7 @@ use Rattle.card.specs.Bench.{checks}
 use Rattle.bench.specs.Rows.{Rows}
 
 pub rows : Rows
-unfolding sum_below up_to back grown bit from_digits any_beyond generator digit parity_at with_tail sent_digit sent_frame sent count check_mask syndrome cleared check_at voting weight_of voting_weight ones_weight decide decide_frame decided corrected decoded answers_by refused_of given_of with_room under_card receive_under receive_of touches_info touches_by store store_rows store_checks store_streams store_counts card_of byte_field standing_field k_field n_field map_field word_at mask_field read_head standing_mask read_masks read_rows read_generators besides touched_by clashes judge read_check read_checks read_streams read_fields read_under checks
+unfolding sum_below up_to back grown bit from_digits any_beyond generator digit parity_at with_tail sent_digit sent_frame sent count check_mask syndrome cleared check_at voting voters votes decide decide_frame decided corrected decoded answers_by refused_of given_of with_room under_card receive_under receive_of touches_info touches_by store store_rows store_checks store_streams store_counts card_of byte_field standing_field k_field n_field map_field word_at mask_field read_head standing_mask read_masks read_rows read_generators besides touched_by clashes judge read_check read_checks read_streams read_fields read_under checks
 rows =
     record {
       p_is_accepted = refl;

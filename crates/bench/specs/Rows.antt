@@ -46,7 +46,7 @@ pub record Rows : Type 0 where
   -- "Q receives 2, 2, 0, 0 as 1 (two of three votes)."
   pub q_receives : decoded (read_card (card_q (s 0 ∷ s 1 ∷ s 3 ∷ []))).card (2 ∷ 2 ∷ 0 ∷ 0 ∷ []) ≡ 1 ∷ []
   -- "P receives one frame: waiting."
-  pub p_receives_one : answers_by (Rule.decoded Rule.unweighted) (read_card card_p).card (3 ∷ []) [] ≡ waiting ∷ []
+  pub p_receives_one : answers_by Rule.decoded (read_card card_p).card (3 ∷ []) [] ≡ waiting ∷ []
   -- "An empty burst received: 0 frames."
   pub empty_burst : receive_of card_p [] [] ≡ record { answer = pos 0; output = [] }
   -- not the document's: without feedback T would give other frames, and feeding stream 1 back before stream 2 is decided would too
@@ -73,6 +73,6 @@ pub record Rows : Type 0 where
   pub ten_were_stored : read_under Former (stored_many 10) ≡ read_card (card_many 10)
   pub eleven_were_stored : (read_under Former (stored_many 11)).outcome ≡ refused 7 35
   -- R-6: "a check that touches an erased digit other than its own, at a time not yet decided, doesn't vote"
-  pub erased : ErasedRows (Rule.decoded Rule.unweighted)
+  pub erased : ErasedRows Rule.decoded
   -- R-7: "A level whose magnitude is below 0.25 is erased from now on; 0.25 and minus 0.25 themselves are digits."
   pub levels : LevelRows

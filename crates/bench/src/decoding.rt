@@ -1,8 +1,8 @@
 // The cases of receiving: document 01, "Checks" and "Readings and bursts", and the refusals 11, 13 and 14 in their orders. Those of readings
-// are in `levels`, those of weighted sessions in `weighing`, those of 15 in `limits`.
+// are in `levels`, those of 15 in `limits`.
 use crate::bursts::Call;
 use crate::tables::Kind;
-use crate::{drafts, levels, lines, tables, weighing};
+use crate::{drafts, levels, lines, tables};
 use code::MOST_FRAMES;
 use decoder::Session;
 use receiving::Answer;
@@ -13,7 +13,6 @@ pub(crate) fn cases() {
     levels::band();
     mixed_sessions();
     levels::erasures();
-    weighing::sessions();
     whole_bursts();
 }
 
@@ -109,7 +108,7 @@ fn number_at(number: u8, fed: u8) -> u8 {
 }
 
 // Under the session's own card number, where no other is told.
-pub(crate) fn steps(s: Session, fed: &[u8]) -> Session {
+fn steps(s: Session, fed: &[u8]) -> Session {
     let card = s.card;
     let mut number = card.number;
     let mut session = s;

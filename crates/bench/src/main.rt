@@ -10,7 +10,6 @@ mod listed;
 mod reading;
 mod sending;
 mod tables;
-mod weighing;
 
 ghost use Rattle.bench.specs.Rows.{Rows};
 

@@ -3,7 +3,7 @@
 //
 // A table is one byte string, for one loop to walk: a call for each row, with a byte string for its name, is dear to check.
 use crate::bursts::Call;
-use crate::{bursts, decoding, levels, limits, lines, listed, reading, sending, weighing};
+use crate::{bursts, decoding, levels, limits, lines, listed, reading, sending};
 use card::CardRule;
 
 // What the rows of a table are about.
@@ -14,7 +14,6 @@ pub(crate) enum Kind {
     Sending,
     Receiving,
     Levels,
-    Weighted,
     Burst(Call),
     LongBurst(Call),
     Listing,
@@ -27,7 +26,6 @@ fn row(kind: Kind, fed: &[u8]) {
         Kind::Sending => sending::row(fed),
         Kind::Receiving => decoding::row(fed),
         Kind::Levels => levels::row(fed),
-        Kind::Weighted => weighing::row(fed),
         Kind::Burst(call) => bursts::row(call, fed),
         Kind::LongBurst(call) => limits::row(call, fed),
         Kind::Listing => listed::row(fed),

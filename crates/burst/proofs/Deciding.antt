@@ -26,10 +26,9 @@ use Rattle.code.proofs.GeneratorSums.{sum-beyond}
 use Rattle.majority.specs.Rule.{cleared, corrected}
 use Rattle.majority.specs.Rule as Rule
 use Rattle.majority.specs.Plain.{decide_frame, decided}
-use Rattle.vote.specs.Voting.{decide_by, decide_by_all}
-use Rattle.vote.specs.Voters.{all_voting}
-use Rattle.vote.proofs.Deciding.{decide-all-is}
-use Rattle.vote.proofs.Voting.{decide-lt, decide-all-lt, decide-wider}
+use Rattle.vote.specs.Voting.{decide_by_all}
+use Rattle.vote.specs.Voters.{all_voting, decideVoters}
+use Rattle.vote.proofs.Voting.{decide-lt, decide-all-lt, decide-wider, decide-all-is}
 use Rattle.vote.proofs.WhoVotes.{all-decide}
 use Rattle.majority.proofs.Plain.{decided-length, decided-at}
 use Rattle.majority.proofs.Feedback.{cleared-fed}
@@ -38,8 +37,8 @@ use Rattle.burst.specs.Held.{syndrome_held, Before, With}
 use Rattle.burst.proofs.Following.{sums-bit}
 
 -- four streams at most are decided
-pub decided-small : (words counts checks syndromes : List ℕ) (k p : ℕ) {errors : ℕ} → errors ≡ decide_by [] words counts checks syndromes k p → errors < 16
-decided-small words counts checks syndromes k p e = rw e (decide-lt [] words counts checks syndromes k p)
+pub decided-small : (words checks syndromes : List ℕ) (k p : ℕ) {errors : ℕ} → errors ≡ decideVoters words checks syndromes k p → errors < 16
+decided-small words checks syndromes k p e = rw e (decide-lt _ _ checks syndromes k p)
 
 -- the errors decided by all checks have a digit for each stream
 pub all-lt : (counts checks syndromes : List ℕ) (k p : ℕ) → k ≤ 4 → decide_by_all counts checks syndromes k p < 2 ^ k
@@ -47,7 +46,7 @@ all-lt counts checks syndromes k p h = let e : min k 4 ≡ k = omega arith in rw
 
 -- the vote of all checks, on all eight registers, of which those from the p-th on have no 1
 pub voted-errors : (counts checks syndromes : List ℕ) (k p : ℕ) {errors : ℕ} → p ≤ 8 → length syndromes ≡ 8 → NoneFrom p syndromes
-    → errors ≡ decide_by [] (all_voting counts k) counts checks syndromes k 8 → check_words ≤ length checks → errors ≡ decide_by_all counts checks syndromes k p
+    → errors ≡ decideVoters (all_voting counts k) checks syndromes k 8 → check_words ≤ length checks → errors ≡ decide_by_all counts checks syndromes k p
 voted-errors counts checks syndromes k p most wide none is long =
     is ∙ all-decide counts checks syndromes k 8 long (omega arith) ∙ decide-wider counts checks syndromes k p most none
 

@@ -1,5 +1,4 @@
--- The published number of each refusal: document 01, "Refused because of the input" and "Refused because of the state"; document 02, R-4, 18, and R-8,
--- 19.
+-- The published number of each refusal: document 01, "Refused because of the input" and "Refused because of the state"; document 02, R-4, 18.
 -- Every definition of this project speaks of a refusal by its number; the program's enum is tied to it here and nowhere else. A check's failure
 -- has the number of `orthogonal/specs/Judgements.antt`; `refusal_of` promises the refusal of the same number.
 -- Assumes nothing.
@@ -7,7 +6,7 @@ use Rattle.std.specs.Prelude.{ℕ}
 use Rattle.card.specs.declared.Refusal.{Refusal}
 use Rattle.card.specs.declared.Refusal.TheVariants.{CardCutShort, KOutOfRange, NOutOfRange, MemoryAboveLimit, MapBeyondStreams, MaskOutOfRange}
 use Rattle.card.specs.declared.Refusal.TheVariants.{CheckCountOutOfRange, OwnDigitUntouched, ErrorTouchedBefore, BytesAfterChecks, DigitBeyondStreams, LevelNotFinite}
-use Rattle.card.specs.declared.Refusal.TheVariants.{OutputTooShort, OtherCardNumber, TooManyFrames, TailBegun, TailSent, DefaultStated, WeightOutOfRange}
+use Rattle.card.specs.declared.Refusal.TheVariants.{OutputTooShort, OtherCardNumber, TooManyFrames, TailBegun, TailSent, DefaultStated}
 
 abbrev pub number_of : Refusal → ℕ
 number_of CardCutShort = 1
@@ -28,4 +27,3 @@ number_of TooManyFrames = 15
 number_of TailBegun = 16
 number_of TailSent = 17
 number_of DefaultStated = 18
-number_of WeightOutOfRange = 19

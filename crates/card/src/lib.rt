@@ -34,7 +34,6 @@ pub enum Refusal {
     TailBegun,
     TailSent,
     DefaultStated,
-    WeightOutOfRange,
 }
 
 // Under which rule a card is read. A field that stands with its default is good under the former one, under which stored cards are read a last
@@ -82,22 +81,6 @@ pub fn refusal_number(refusal: Refusal) -> u8
         Refusal::TailBegun => 16,
         Refusal::TailSent => 17,
         Refusal::DefaultStated => 18,
-        Refusal::WeightOutOfRange => 19,
-    }
-}
-
-// The card with nothing stated.
-pub fn empty_card() -> Card
-    ensures { result ≡ empty_card }
-{
-    Card {
-        number: 0,
-        k: 0,
-        p: 0,
-        m: 0,
-        generators: [0; 32],
-        counts: [0; 4],
-        checks: [0; CHECK_WORDS],
     }
 }
 
@@ -107,7 +90,7 @@ fn refused(verdict: Verdict) -> CardRead
 {
     CardRead {
         verdict,
-        card: empty_card(),
+        card: parts::empty_card(),
     }
 }
 

@@ -1,12 +1,13 @@
 // The parts of a card before its checks: the head, and the generators. The tables of a card are lent from part to part and filled in place: handed
 // on by value they would be copied each time.
 ghost use Rattle.std.specs.Prelude.{◌≡◌, ◌<◌, ◌≤◌, length, replicate};
-ghost use Rattle.card.specs.Fields.{store_rows};
+ghost use Rattle.card.specs.Fields.{empty_card, store_rows};
 ghost use Rattle.card.specs.Reading.{read_mapped, read_head, read_generators};
 ghost use Rattle.card.specs.Parts.{verdict_of, read_by, Opened, head_from, sizes_of};
 
 use crate::fields::FieldRead;
 use crate::{CardRule, Refusal, Verdict, fields};
+use code::{CHECK_WORDS, Card};
 
 // What the head of a card states.
 #[derive(Drop)]
@@ -30,6 +31,21 @@ pub(crate) struct HeadRead {
 pub(crate) struct PartRead {
     pub verdict: Verdict,
     pub at: usize,
+}
+
+// The card with nothing stated.
+pub(crate) fn empty_card() -> Card
+    ensures { result ≡ empty_card }
+{
+    Card {
+        number: 0,
+        k: 0,
+        p: 0,
+        m: 0,
+        generators: [0; 32],
+        counts: [0; 4],
+        checks: [0; CHECK_WORDS],
+    }
 }
 
 // The head that ends at the fault of a field.

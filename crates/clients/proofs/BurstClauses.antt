@@ -16,7 +16,7 @@ use Rattle.code.specs.declared.Card.{Card}
 use Rattle.card.specs.Bench.{card_p}
 use Rattle.card.specs.Outcome.{CardOutcome}
 use Rattle.card.specs.Reading.{read_card}
-use Rattle.majority.specs.Rule.{syndrome, cleared, check_at, voting, weight_of, voting_weight, ones_weight, decide, decide_frame, decided, corrected, decoded}
+use Rattle.majority.specs.Rule.{syndrome, cleared, check_at, voting, voters, votes, decide, decide_frame, decided, corrected, decoded}
 use Rattle.outcomes.specs.Outcome.{outcome, refused_of, given_of, under_card}
 use Rattle.outcomes.specs.Sending.{send_under, send_of}
 use Rattle.outcomes.specs.Receiving.{receive_under, receive_of}
@@ -52,7 +52,7 @@ comes_out output room r after filled claim =
     (came.count, sym (take_all 3 after (omega arith)) ∙ came.frames)
 
 pub receives : (output : List ℕ) → length output ≡ 5 → receive_of card_p (2 ∷ 2 ∷ 0 ∷ 0 ∷ []) output ≡ outcome (pos 3) (1 ∷ 0 ∷ 0 ∷ drop 3 output)
-unfolding sum_below up_to back grown bit from_digits any_beyond generator digit parity_at count check_mask touches_info touches_by besides clashes syndrome cleared check_at voting weight_of voting_weight ones_weight decide decide_frame decided corrected decoded given_of
+unfolding sum_below up_to back grown bit from_digits any_beyond generator digit parity_at count check_mask touches_info touches_by besides clashes syndrome cleared check_at voting voters votes decide decide_frame decided corrected decoded given_of
 receives output room =
     let input : List ℕ = 2 ∷ 2 ∷ 0 ∷ 0 ∷ [] in
     received-P input output ∙ receive-given P input output (omega arith) (omega arith) refl

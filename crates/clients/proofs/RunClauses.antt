@@ -15,13 +15,13 @@ use Rattle.card.specs.Bench.{card_p}
 use Rattle.card.specs.Outcome.{CardOutcome}
 use Rattle.code.specs.ErasedDigits.{any_with, erased_with, erased_moved}
 use Rattle.vote.specs.Voters.{all_voting, voters_by, decide_marked}
-use Rattle.vote.specs.Voting.{check_by, ones_by, if_whole, majority_by, error_by, decide_by}
+use Rattle.vote.specs.Voting.{check_by, ones_by, if_whole, majority_by, decide_by}
 use Rattle.receiving.specs.Calls.{reply_of, answers, handed_by, handed_in}
 use Rattle.receiving.specs.Opening as receiver
 use Rattle.receiving.specs.Readings.{read_byte_of}
 use Rattle.receiving.specs.Receive as received
 use Rattle.decoder.specs.Held.{with_syndromes, fed_back, held_with_frame, next_held, corrected_digit, corrected_by}
-use Rattle.decoder.specs.Receive.{first_circuit, weighing, errors_of, with_frame, handing_of, taken_of}
+use Rattle.decoder.specs.Receive.{first_circuit, errors_of, with_frame, handing_of, taken_of}
 use Rattle.encoder.specs.Calls.{call_of, given_by, frames_given}
 use Rattle.encoder.specs.Opening as sender
 use Rattle.encoder.specs.Sending as sent
@@ -61,7 +61,7 @@ abbrev information : List ℕ
 information = 1 ∷ 2 ∷ 0 ∷ 1 ∷ []
 
 frames-out : (receiving.frames_of (received.open_of first_circuit P) one_wrong ≡ 1 ∷ 0 ∷ 1 ∷ []) × (receiving.frames_of (received.open_of first_circuit P) one_refused ≡ 1 ∷ 0 ∷ 1 ∷ [])
-unfolding sum_below xor_below up_to put_first bit from_digits dot shift_up generator_mask generator_sum shift_in history_by parity_by digit_by frame_by syndromes_by feedback_by with_digits with_words moved_on check_by ones_by if_whole majority_by error_by decide_by all_voting voters_by any_with erased_with erased_moved corrected_digit corrected_by with_syndromes decide_marked fed_back held_with_frame next_held weighing errors_of read_byte_of received.open_of with_frame handing_of taken_of received.in_turn received.admit_of received.refused_of received.settled_of received.receive_of received.receive_byte_of reply_of handed_by handed_in answers ones
+unfolding sum_below xor_below up_to put_first bit from_digits dot shift_up generator_mask generator_sum shift_in history_by parity_by digit_by frame_by syndromes_by feedback_by with_digits with_words moved_on check_by ones_by if_whole majority_by decide_by all_voting voters_by any_with erased_with erased_moved corrected_digit corrected_by with_syndromes decide_marked fed_back held_with_frame next_held errors_of read_byte_of received.open_of with_frame handing_of taken_of received.in_turn received.admit_of received.refused_of received.settled_of received.receive_of received.receive_byte_of reply_of handed_by handed_in answers ones
 frames-out = (refl, refl)
 
 frames-sent : sending.frames_of (sent.open_of P) information ≡ 3 ∷ 2 ∷ 3 ∷ 2 ∷ []

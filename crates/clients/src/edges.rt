@@ -8,8 +8,8 @@ ghost use Rattle.encoder.specs.Edges.{SendingEdges};
 ghost use Rattle.majority.specs.Edges.{Edges, LargerEdges, ErasedEdges, LargerErasedEdges};
 ghost use Rattle.majority.specs.Erased.{ErasedRows};
 ghost use Rattle.majority.specs.Figures.{FigureRows};
-ghost use Rattle.majority.specs.Plain.{Correctable, NoneErased, Counted, Former};
-ghost use Rattle.majority.specs.Rule.{Weights, unweighted, decoded, figure_by};
+ghost use Rattle.majority.specs.Plain.{Correctable, NoneErased, Former};
+ghost use Rattle.majority.specs.Rule.{decoded, figure_by};
 ghost use Rattle.majority.specs.SecondCircuit.{decoded_by_digits};
 ghost use Rattle.outcomes.specs.Admissions.{Admissions};
 ghost use Rattle.outcomes.specs.Claims.{SentAs};
@@ -30,17 +30,7 @@ pub fn calls_are_admitted()
 
 // What comes out where digits are erased, by both circuits.
 pub fn erased_digits_leave_the_vote()
-    ensures { ErasedRows (decoded unweighted) × ErasedRows decoded_by_digits }
-{}
-
-// Where every check weighs one the rule counts, as R-6 has it.
-pub fn unweighted_is_counted()
-    ensures { (c : Card) (frames erased : List ℕ) (u i : ℕ) → Counted c frames erased u i }
-{}
-
-// R-6's condition implies R-8's, for every accepted card, where every check weighs one.
-pub fn counted_is_correctable_by_weight()
-    ensures { (c : Card) → Guarantees c → (info frames erased : List ℕ) → AsSent.Correctable c info frames erased → AsSent.CorrectableByWeight unweighted c info frames erased }
+    ensures { ErasedRows decoded × ErasedRows decoded_by_digits }
 {}
 
 // Where nothing is erased the rule and the condition are the former ones, for every accepted card.
@@ -60,7 +50,7 @@ pub fn terms_are_taken()
 
 // The link figure where no syndrome is held: before the first frame, and without memory.
 pub fn figure_is_zero()
-    ensures { ((w : Weights) (c : Card) → figure_by w c [] [] ≡ 0) × ((w : Weights) (c : Card) (frames erased : List ℕ) → c.m ≡ 0 → figure_by w c frames erased ≡ 0) }
+    ensures { ((c : Card) → figure_by c [] [] ≡ 0) × ((c : Card) (frames erased : List ℕ) → c.m ≡ 0 → figure_by c frames erased ≡ 0) }
 {}
 
 // .. and where some are, in three parity streams and in a long memory.
@@ -70,5 +60,5 @@ pub fn figure_counts_every_syndrome()
 
 // Both circuits give equal frames, for every accepted card and every stream, whichever digits are erased.
 pub fn circuits_agree()
-    ensures { (c : Card) → Guarantees c → (frames erased : List ℕ) → decoded_by_digits c frames erased ≡ decoded unweighted c frames erased }
+    ensures { (c : Card) → Guarantees c → (frames erased : List ℕ) → decoded_by_digits c frames erased ≡ decoded c frames erased }
 {}

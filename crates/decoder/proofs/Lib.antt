@@ -1,5 +1,4 @@
 pub mod Step
 pub mod Composed
 pub mod Follow
-pub mod FreshSessions
 pub mod Example

@@ -1,9 +1,8 @@
 -- What a session does with a frame to what it holds besides its card, for tables and registers of every value: what the functions of `decoder` compute. Nobody
 -- has to believe this file: `Receive` says by it what the session does, and proofs/Follow.antt ties that to the rule.
--- Digit a of syndrome register j is the syndrome of parity stream j at u + a, where the frame of time u is decided next. `weights` are w0 and those of the
--- card's checks; none in a plain session.
+-- Digit a of syndrome register j is the syndrome of parity stream j at u + a, where the frame of time u is decided next.
 -- Assumes nothing.
-use Rattle.std.specs.Prelude.{ℕ, ◌+◌, ◌/◌, ◌%◌, min, cond, ◌≡◌, List, ltb, Float, get_or, replicate}
+use Rattle.std.specs.Prelude.{ℕ, ◌+◌, ◌/◌, ◌%◌, min, cond, ◌≡◌, List, ltb, get_or, replicate}
 use Rattle.std.specs.Int.Count.{ones}
 use Rattle.bits.specs.Sums.{sum_below}
 use Rattle.bits.specs.Digits.{bit, from_digits}
@@ -45,8 +44,8 @@ held_with_frame g h z a f e =
     }
 
 -- the decided errors of the frame that is decided next
-abbrev pub errors_in : List Float → List ℕ → List ℕ → List ℕ → Held → Sizes → ℕ
-errors_in weights g counts checks h z = decide_marked weights g counts checks h.syndromes h.erased h.any z
+abbrev pub errors_in : List ℕ → List ℕ → List ℕ → Held → Sizes → ℕ
+errors_in g counts checks h z = decide_marked g counts checks h.syndromes h.erased h.any z
 
 -- what is held with the decided errors e fed back, for the next frame
 unfoldable pub next_held : List ℕ → Held → Sizes → ℕ → Held
@@ -76,17 +75,17 @@ abbrev pub step_of : Settled → Step
 step_of r = record { answer = answer_of r.answer; held = r.held; received = r.received }
 
 -- the frame m before the last one received, handed out
-unfoldable pub handed_by : List Float → List ℕ → List ℕ → List ℕ → Held → Sizes → ℕ → Step
-handed_by weights g counts checks h z received =
+unfoldable pub handed_by : List ℕ → List ℕ → List ℕ → Held → Sizes → ℕ → Step
+handed_by g counts checks h z received =
     record {
-      answer = frame (corrected_by h.history (errors_in weights g counts checks h z) z.k z.m);
-      held = next_held g h z (errors_in weights g counts checks h z);
+      answer = frame (corrected_by h.history (errors_in g counts checks h z) z.k z.m);
+      held = next_held g h z (errors_in g counts checks h z);
       received = received;
     }
 
 -- a frame, or its refusal, after so many frames taken before
-unfoldable pub settled_by : List Float → List ℕ → List ℕ → List ℕ → Held → Sizes → ℕ → Yield → Step
-settled_by weights g counts checks h z received (yields f e) =
+unfoldable pub settled_by : List ℕ → List ℕ → List ℕ → Held → Sizes → ℕ → Yield → Step
+settled_by g counts checks h z received (yields f e) =
     let with = held_with_frame g h z (min received z.m) f e in
-    cond (ltb received z.m) (record { answer = waiting; held = with; received = received + 1 }) (handed_by weights g counts checks with z (received + 1))
-settled_by weights g counts checks h z received (refuses r) = record { answer = refused r; held = h; received = received }
+    cond (ltb received z.m) (record { answer = waiting; held = with; received = received + 1 }) (handed_by g counts checks with z (received + 1))
+settled_by g counts checks h z received (refuses r) = record { answer = refused r; held = h; received = received }

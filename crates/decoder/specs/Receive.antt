@@ -1,29 +1,16 @@
 -- What a session does with a frame, exactly and for every session, those that no call of ours made among them: the numbers of streams are held to
 -- what the tables have. Its calls are those of every receiving session (`receiving`, `Receive`); this is tied to the rule by proofs/Follow.antt.
 -- Assumes nothing.
-use Rattle.std.specs.Prelude.{ℕ, ◌+◌, Bool, true, cond, List, [], ◌∷◌, Float, replicate}
+use Rattle.std.specs.Prelude.{ℕ, ◌+◌}
 use Rattle.code.specs.declared.Card.{Card}
 use Rattle.receiving.specs.Answers.{Reply, frame}
 use Rattle.receiving.specs.Receive.{sizes_in, place_of, Circuit, in_turn}
-use Rattle.weights.specs.Weights.{no_weight, one_weight}
-use Rattle.weights.specs.Weighing.{most_weights}
 use Rattle.decoder.specs.Held.{nothing_held, held_with_frame, errors_in, next_held, corrected_by, ones_by}
 use Rattle.decoder.specs.declared.Session.{Session}
 
--- the weights of a plain session, which holds them and does not look at them: w0 is 0, and every check weighs one
-abbrev pub plain_weights : List Float
-plain_weights = no_weight ∷ replicate most_weights one_weight
-
 -- a session that holds no digit, with so many frames counted as received
-abbrev pub fresh_by : Bool → List Float → Card → ℕ → Session
-fresh_by plain weights c received = record { card = c; held = nothing_held; plain = plain; weights = weights; received = received }
-
 abbrev pub fresh_of : Card → ℕ → Session
-fresh_of c received = fresh_by true plain_weights c received
-
--- the weights that its checks are weighed by: none in a plain session
-unfoldable pub weighing : Bool → List Float → List Float
-weighing plain weights = cond plain [] weights
+fresh_of c received = record { card = c; held = nothing_held; received = received }
 
 -- ---- a frame that is taken
 
@@ -33,28 +20,19 @@ with_frame s f e =
     record {
       card = s.card;
       held = held_with_frame s.card.generators s.held (sizes_in s.card) (place_of s.received s.card.m) f e;
-      plain = s.plain;
-      weights = s.weights;
       received = s.received + 1;
     }
 
 -- the decided errors of the frame that is decided next
 unfoldable pub errors_of : Session → ℕ
-errors_of s = errors_in (weighing s.plain s.weights) s.card.generators s.card.counts s.card.checks s.held (sizes_in s.card)
+errors_of s = errors_in s.card.generators s.card.counts s.card.checks s.held (sizes_in s.card)
 
 -- that frame handed out, and the session with the decided errors fed back
 unfoldable pub handing_of : Session → Reply Session
 handing_of s =
     record {
       answer = frame (corrected_by s.held.history (errors_of s) (sizes_in s.card).k s.card.m);
-      session =
-          record {
-            card = s.card;
-            held = next_held s.card.generators s.held (sizes_in s.card) (errors_of s);
-            plain = s.plain;
-            weights = s.weights;
-            received = s.received;
-          };
+      session = record { card = s.card; held = next_held s.card.generators s.held (sizes_in s.card) (errors_of s); received = s.received };
     }
 
 -- a frame that is not refused
@@ -63,7 +41,7 @@ taken_of s f e = in_turn s.received s.card.m (with_frame s f e) handing_of
 
 -- ---- the session
 
--- Massey's first circuit, the one that votes on syndromes; it is opened plain, or by weights
+-- Massey's first circuit, the one that votes on syndromes
 abbrev pub first_circuit : Circuit Session
 first_circuit = record { card = λ s. s.card; received = λ s. s.received; fresh = fresh_of; take = taken_of }
 

@@ -7,16 +7,14 @@ ghost use Rattle.std.specs.Prelude.{◌≡◌, ℕ, ◌<◌, ◌≤◌};
 ghost use Rattle.code.specs.Code.{most_frames};
 ghost use Rattle.receiving.specs.Readings.{yields, frame_yield_of};
 ghost use Rattle.receiving.specs.Receive.{sizes_in, receive_of, receive_byte_of, receive_readings_of};
-ghost use Rattle.card.specs.Fields.{empty_card};
 ghost use Rattle.vote.specs.Voters.{decide_marked};
 ghost use Rattle.decoder.specs.Held.{step_of, PutIn, fed_back, settled_by};
-ghost use Rattle.decoder.specs.Opening.{OpenPromise, OpenedAs, WeightedPromise, received_of};
-ghost use Rattle.decoder.specs.Receive.{fresh_by, fresh_of, weighing, first_circuit, link_figure_of};
+ghost use Rattle.decoder.specs.Opening.{OpenPromise, received_of};
+ghost use Rattle.decoder.specs.Receive.{fresh_of, first_circuit, link_figure_of};
 
-use card::{CardRule, Refusal, Verdict};
-use code::{Card, MOST_FRAMES, Sizes};
-use receiving::{Answer, OpenVerdict, ReadFrame, Reading};
-use weights::{MOST_WEIGHTS, Weights};
+use card::{CardRule, Verdict};
+use code::{Card, Sizes};
+use receiving::{Answer, ReadFrame, Reading};
 
 // What a session holds of the frames that it took.
 #[derive(Drop)]
@@ -27,13 +25,11 @@ pub struct Held {
     pub any: u32, // bit a: whether some digit is, a after that frame
 }
 
-// What a session is between two calls, plain or weighted.
+// What a session is between two calls.
 #[derive(Drop)]
 pub struct Session {
     pub card: Card,
     pub held: Held,
-    pub plain: bool, // whether every check weighs one; the weights are not looked at then
-    pub weights: [f32; 1 + MOST_WEIGHTS], // w0, then those of the card's checks, stream by stream in check order without gaps
     pub received: u32, // how many frames were taken
 }
 
@@ -51,16 +47,9 @@ pub struct Opened {
     pub session: Session,
 }
 
-// What opening with weights comes to, and the session.
-#[derive(Drop)]
-pub struct OpenedWeighted {
-    pub verdict: OpenVerdict,
-    pub session: Session,
-}
-
 // A session that holds no digit, with so many frames counted as received.
-fn fresh(card: Card, plain: bool, weights: [f32; 1 + MOST_WEIGHTS], received: u32) -> Session
-    ensures { result ≡ fresh_by plain weights card received }
+fn fresh(card: Card, received: u32) -> Session
+    ensures { result ≡ fresh_of card received }
 {
     Session {
         card,
@@ -70,19 +59,8 @@ fn fresh(card: Card, plain: bool, weights: [f32; 1 + MOST_WEIGHTS], received: u3
             erased: [0u32; 8],
             any: 0,
         },
-        plain,
-        weights,
         received,
     }
-}
-
-// A plain one: w0 is 0, and every check weighs one.
-fn fresh_plain(card: Card, received: u32) -> Session
-    ensures { result ≡ fresh_of card received }
-{
-    let mut weights = [1.0f32; 1 + MOST_WEIGHTS];
-    weights[0] = 0.0;
-    fresh(card, true, weights, received)
 }
 
 // Reads the card. A refused opening hands out a session with the empty card that refuses every call.
@@ -91,47 +69,8 @@ pub fn open(card: &[u8]) -> Opened
 {
     let read = card::read_card(CardRule::Present, card);
     let verdict = read.verdict;
-    let session = fresh_plain(read.card, receiving::frames_at_opening(verdict));
+    let session = fresh(read.card, receiving::frames_at_opening(verdict));
     Opened { verdict, session }
-}
-
-// An opening that is refused: the closed session, which refuses every call.
-fn refused(verdict: OpenVerdict) -> OpenedWeighted
-    ensures { result ≡ record { verdict = verdict; session = fresh_of empty_card most_frames } }
-{
-    OpenedWeighted {
-        verdict,
-        session: fresh_plain(card::empty_card(), MOST_FRAMES as u32),
-    }
-}
-
-// A session with an accepted card, by these weights, if they are weights.
-fn with_weights(card: Card, weights: Weights) -> OpenedWeighted
-    ensures { OpenedAs weights card result }
-{
-    let counts = card.counts;
-    let total = weights::first_weight(&counts, card.k);
-    if weights::are_weights(weights, total) {
-        return OpenedWeighted {
-            verdict: OpenVerdict::Opened,
-            session: fresh(card, false, weights::laid_out(weights, total), 0),
-        };
-    }
-    refused(OpenVerdict::Refused(Refusal::WeightOutOfRange))
-}
-
-// Reads the card, and opens a session that decides by weights. A refused opening hands out a session with the empty card that refuses every call.
-pub fn open_weighted(card: &[u8], weights: Weights) -> OpenedWeighted
-    ensures { WeightedPromise card.now weights result }
-{
-    let read = card::read_card(CardRule::Present, card);
-    let verdict = read.verdict;
-    match verdict {
-        Verdict::Refused { refusal, offset } => {
-            refused(OpenVerdict::CardRefused { refusal, offset })
-        }
-        Verdict::Accepted => with_weights(read.card, weights),
-    }
 }
 
 // Puts a frame in at a place: its information digits, and the syndromes that they and its parity digits give.
@@ -152,7 +91,6 @@ fn put_in(
 
 // The decided errors of the frame that is decided next. While no syndrome held is 1 there is no vote.
 fn errors<'a>(
-    weights: &[f32],
     generators: &'a [u32],
     counts: &'a [u32],
     checks: &'a [u32],
@@ -161,14 +99,12 @@ fn errors<'a>(
     any: u32,
     sizes: Sizes,
 ) -> u32
-    ensures { result ≡ decide_marked weights.now generators.now counts.now checks.now syndromes.now erased.now any sizes }
+    ensures { result ≡ decide_marked generators.now counts.now checks.now syndromes.now erased.now any sizes }
 {
     if registers::together(syndromes, sizes.p) == 0 {
         return 0;
     }
-    vote::decide_marked(
-        weights, generators, counts, checks, syndromes, erased, any, sizes,
-    )
+    vote::decide_marked(generators, counts, checks, syndromes, erased, any, sizes)
 }
 
 // Takes the decided errors out of the syndromes, and moves these on to the next frame.
@@ -191,7 +127,6 @@ struct Settled {
 // A frame that is admitted is taken: the first m give 'waiting', each later one the frame m before it. A refused call leaves what is held as it was. The
 // registers are changed where they stand, since what was just stored word by word is slow to copy.
 fn settle<'a>(
-    weights: &[f32],
     generators: &'a [u32],
     counts: &'a [u32],
     checks: &'a [u32],
@@ -201,7 +136,7 @@ fn settle<'a>(
     admitted: ReadFrame,
 ) -> Settled
     requires { (sizes.k ≤ 4) × ((f e : ℕ) → frame_yield_of admitted ≡ yields f e → received < most_frames) }
-    ensures { step_of result ≡ settled_by weights.now generators.now counts.now checks.now held sizes received (frame_yield_of admitted) }
+    ensures { step_of result ≡ settled_by generators.now counts.now checks.now held sizes received (frame_yield_of admitted) }
 {
     let mut history = held.history;
     let mut syndromes = held.syndromes;
@@ -234,9 +169,7 @@ fn settle<'a>(
                     received: taken,
                 };
             }
-            let wrong = errors(
-                weights, generators, counts, checks, &syndromes, &erased, any, sizes,
-            );
+            let wrong = errors(generators, counts, checks, &syndromes, &erased, any, sizes);
             let frame = registers::corrected(&history, wrong, sizes.k, sizes.m);
             feed_back(&mut syndromes, generators, sizes, wrong);
             let later = code::erased::move_on(&mut erased, any);
@@ -259,16 +192,6 @@ fn settle<'a>(
     }
 }
 
-// The weights that the checks are weighed by: none in a plain session.
-fn weighing(weights: &[f32], plain: bool) -> &[f32]
-    ensures { result.now ≡ weighing plain weights.now }
-{
-    if plain {
-        return &weights[..0];
-    }
-    weights
-}
-
 // A frame, or its own refusal, under a card number: taken or refused.
 fn receive(s: Session, sizes: Sizes, number: u8, read: ReadFrame) -> Received
     requires { sizes ≡ sizes_in s.card }
@@ -276,11 +199,8 @@ fn receive(s: Session, sizes: Sizes, number: u8, read: ReadFrame) -> Received
 {
     let card = s.card;
     let held = s.held;
-    let weights = s.weights;
-    let plain = s.plain;
     let admitted = receiving::admit(card.number, s.received, number, read);
     let settled = settle(
-        weighing(&weights, plain),
         &card.generators,
         &card.counts,
         &card.checks,
@@ -296,8 +216,6 @@ fn receive(s: Session, sizes: Sizes, number: u8, read: ReadFrame) -> Received
         session: Session {
             card,
             held: after,
-            plain,
-            weights,
             received: settled.received,
         },
     }

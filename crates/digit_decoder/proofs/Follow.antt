@@ -14,10 +14,10 @@ use Rattle.code.proofs.OwnSizes.{own, sizes-are}
 use Rattle.code.proofs.StreamRegisters as registers
 use Rattle.code.proofs.StreamRegisters.{DigitsAt}
 use Rattle.majority.specs.AsSent.{Correctable}
-use Rattle.majority.specs.Rule.{unweighted, decoded}
+use Rattle.majority.specs.Rule.{decoded}
 use Rattle.majority.specs.SecondCircuit.{decide_digits, decided_digits, decoded_by_digits}
 use Rattle.majority.proofs.SecondCircuit.{digits-length, digits-at, circuits-agree}
-use Rattle.majority.proofs.Counted.{decoded-as-sent}
+use Rattle.majority.proofs.Theorem.{decoded-as-sent}
 use Rattle.receiving.specs.Answers.{waiting, frame}
 use Rattle.receiving.specs.Receive.{place_of, open_of}
 use Rattle.receiving.specs.Calls.{Call, taken_frames, taken_erased, answers, answers_by}
@@ -27,7 +27,7 @@ use Rattle.receiving.proofs.ByRule.{follows-rule}
 use Rattle.code.proofs.ErasedDigits.{ErasedAt, erased-start, erased-next, erased-moved}
 use Rattle.vote.proofs.WhoVotes.{voters-are}
 use Rattle.decoder.specs.Receive.{first_circuit}
-use Rattle.decoder.proofs.FreshSessions as first
+use Rattle.decoder.proofs.Follow as first
 use Rattle.digit_decoder.specs.Held.{nothing_held, held_with_frame, decided_in, next_held}
 use Rattle.digit_decoder.specs.Receive.{with_frame, frame_of, handing_of, taken_of, second_circuit}
 use Rattle.digit_decoder.specs.Claims.{Claims}
@@ -162,7 +162,7 @@ module _ (c : Card) (G : Guarantees c) (frames erased : List ℕ) where
   start = record { card_is = refl; received_is = refl; held-is = nothing (0 - c.m) (omega arith) }
 
 -- ---- what holds of an opened session
-same : (c : Card) → Guarantees c → (frames erased : List ℕ) → answers_by decoded_by_digits c frames erased ≡ answers_by (decoded unweighted) c frames erased
+same : (c : Card) → Guarantees c → (frames erased : List ℕ) → answers_by decoded_by_digits c frames erased ≡ answers_by decoded c frames erased
 unfolding answers_by
 same c G frames erased = ap (λ (l : List ℕ). replicate (min (length frames) c.m) waiting ++ map frame l) (circuits-agree c G frames erased)
 
@@ -171,7 +171,7 @@ agreed : (c : Card) → Guarantees c → (calls : List Call) → answers second_
 agreed c G calls =
     let frames = taken_frames second_circuit (open_of second_circuit c) calls in
     let erased = taken_erased second_circuit (open_of second_circuit c) calls in
-    agree second_circuit first_circuit c G frames erased (answers_by decoded_by_digits c frames erased) (answers_by (decoded unweighted) c frames erased) (same c G frames erased)
+    agree second_circuit first_circuit c G frames erased (answers_by decoded_by_digits c frames erased) (answers_by decoded c frames erased) (same c G frames erased)
     (follows c G frames erased) (first.follows c G frames erased) calls 0 (open_of second_circuit c) (open_of first_circuit c) (start c G frames erased)
     (first.start c G frames erased) refl refl
 

@@ -104,11 +104,17 @@ fn decide<'a>(
     let digits = held.digits;
     let decided = held.decided;
     let erased = held.erased;
-    let voting = vote::voters::voting(
+    let voters = vote::voters::voting(
         generators, counts, checks, &erased, held.any, sizes.k, sizes.p,
     );
     registers::decide(
-        generators, checks, &voting, &digits, &decided, sizes.k, sizes.p,
+        generators,
+        checks,
+        &voters.words,
+        &digits,
+        &decided,
+        sizes.k,
+        sizes.p,
     )
 }
 

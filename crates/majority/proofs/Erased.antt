@@ -5,11 +5,11 @@ use Rattle.bits.specs.Digits.{bit, from_digits}
 use Rattle.code.specs.Code.{generator, digit, parity_at}
 use Rattle.code.specs.Checks.{count, check_mask, touches_info, touches_by, besides}
 use Rattle.code.specs.Judging.{clashes}
-use Rattle.majority.specs.Rule.{unweighted, syndrome, cleared, check_at, voting, weight_of, voting_weight, ones_weight, decide, decide_frame, decided, corrected, decoded}
+use Rattle.majority.specs.Rule.{syndrome, cleared, check_at, voting, voters, votes, decide, decide_frame, decided, corrected, decoded}
 use Rattle.majority.specs.Erased.{ErasedRows}
 
-pub erased-rows : ErasedRows (decoded unweighted)
-unfolding sum_below up_to back grown bit from_digits generator digit parity_at count check_mask touches_info touches_by besides clashes syndrome cleared check_at voting weight_of voting_weight ones_weight decide decide_frame decided corrected decoded
+pub erased-rows : ErasedRows decoded
+unfolding sum_below up_to back grown bit from_digits generator digit parity_at count check_mask touches_info touches_by besides clashes syndrome cleared check_at voting voters votes decide decide_frame decided corrected decoded
 erased-rows =
     record {
       frame_lost = refl;

@@ -11,21 +11,21 @@ use Rattle.code.specs.Code.{generator, digit, parity_at}
 use Rattle.code.specs.Checks.{count, check_mask, touches_info, touches_by, besides}
 use Rattle.code.specs.Judging.{clashes}
 use Rattle.code.specs.declared.Card.{Card}
-use Rattle.majority.specs.Rule.{Weights, syndrome, cleared, check_at, voting, weight_of, voting_weight, ones_weight, decide, decide_frame, decided, figure_by}
+use Rattle.majority.specs.Rule.{syndrome, cleared, check_at, voting, voters, votes, decide, decide_frame, decided, figure_by}
 use Rattle.majority.specs.Figures.{FigureRows}
 
-figure-none : (w : Weights) (c : Card) (frames erased : List ℕ) → length frames - (length frames - c.m) ≡ 0 → figure_by w c frames erased ≡ 0
+figure-none : (c : Card) (frames erased : List ℕ) → length frames - (length frames - c.m) ≡ 0 → figure_by c frames erased ≡ 0
 unfolding figure_by
-figure-none w c frames erased none = sum-none _ _ (λ j l. sum-none _ _ (λ a k. absurd (omega arith)))
+figure-none c frames erased none = sum-none _ _ (λ j l. sum-none _ _ (λ a k. absurd (omega arith)))
 
-pub figure-fresh : (w : Weights) (c : Card) → figure_by w c [] [] ≡ 0
-figure-fresh w c = figure-none w c [] [] (omega arith)
+pub figure-fresh : (c : Card) → figure_by c [] [] ≡ 0
+figure-fresh c = figure-none c [] [] (omega arith)
 
-pub figure-without-memory : (w : Weights) (c : Card) (frames erased : List ℕ) → c.m ≡ 0 → figure_by w c frames erased ≡ 0
-figure-without-memory w c frames erased e = figure-none w c frames erased (omega arith)
+pub figure-without-memory : (c : Card) (frames erased : List ℕ) → c.m ≡ 0 → figure_by c frames erased ≡ 0
+figure-without-memory c frames erased e = figure-none c frames erased (omega arith)
 
 pub figure-rows : FigureRows
-unfolding sum_below back grown bit from_digits generator digit parity_at count check_mask touches_info touches_by besides clashes syndrome cleared check_at voting weight_of voting_weight ones_weight decide decide_frame decided figure_by
+unfolding sum_below back grown bit from_digits generator digit parity_at count check_mask touches_info touches_by besides clashes syndrome cleared check_at voting voters votes decide decide_frame decided figure_by
 figure-rows =
     record {
       one_frame = refl;

@@ -4,9 +4,7 @@ pub mod Feedback
 pub mod Majority
 pub mod Linear
 pub mod Theorem
-pub mod Counted
--- the plain rule
-pub mod Weights
+-- nothing erased
 pub mod Plain
 pub mod Edges
 pub mod Erased

@@ -1,11 +1,11 @@
--- The vote over functions: Theorems 1 and 3 of the report (source document 004). A check that is not hit, that is, touches no wrong digit besides its own,
--- equals the error of its own digit; so the vote goes with that error as long as the hit checks do not outweigh the others that vote.
+-- The vote over functions: Theorem 1 of the report (source document 004). A check that is not hit, that is, touches no wrong digit besides its own,
+-- equals the error of its own digit; so the majority goes with that error as long as the hit checks are not too many among those that vote.
 -- Digits are counted by b, below B, and s, below S; the own one is (0, i). Check q votes if v q is 1; it touches the digit (b, s) if t q b s is 1, and
 -- the error of the digit is e b s.
 use Prim.Native.Nat.{ℕ, ◌+◌, ◌-◌, ◌*◌, ◌≤◌, ◌<◌, min}
 use mathlib.Core.Path.{◌≡◌, sym, ap, ◌∙◌}
 use mathlib.Core.Logic.{⊎_elim}
-use native.Mathlib.Nat.{le_trans, le_of_eq, zero-mul, one-mul, mul-one, mul-add, add-mul, mul_comm, mul_assoc, mul-le-mul_right, mul-le-mul_left}
+use native.Mathlib.Nat.{le_trans, le_of_eq, zero-mul, one-mul, mul-one, mul-add, mul_comm, mul_assoc, mul-le-mul_right, mul-le-mul_left}
 use native.Mathlib.Omega.{arith}
 use Rattle.bits.specs.Sums.{sum_below}
 use Rattle.bits.proofs.Sums.{sum-cong, sum-add, sum-scale, sum-scale-left, sum-swap, sum_mono}
@@ -20,24 +20,19 @@ touched_sum B S t e = sum_below B (λ b. sum_below S (λ s. t b s * e b s))
 unfoldable pub besides_sum : ℕ → ℕ → ℕ → (ℕ → ℕ → ℕ) → (ℕ → ℕ → ℕ) → ℕ
 besides_sum B S i t e = sum_below B (λ b. sum_below S (λ s. besides i b s * (t b s * e b s)))
 
--- ---- the votes: of the J checks, q is equal to x q, and hit if h q is 1; it weighs w q
-module _ (J : ℕ) (v x h w : ℕ → ℕ) where
+-- ---- the votes: of the J checks, q is equal to x q, and hit if h q is 1
+module _ (J : ℕ) (v x h : ℕ → ℕ) where
   -- where each check equal to 1 is hit
-  pub few_ones : ((q : ℕ) → q < J → x q ≤ h q) → sum_below J (λ q. v q * x q * w q) ≤ sum_below J (λ q. v q * h q * w q)
-  few_ones l = sum_mono J _ _ (λ q lq. mul-le-mul_right (w q) (mul-le-mul_left (v q) (l q lq)))
+  pub few_ones : ((q : ℕ) → q < J → x q ≤ h q) → sum_below J (λ q. v q * x q) ≤ sum_below J (λ q. v q * h q)
+  few_ones l = sum_mono J _ _ (λ q lq. mul-le-mul_left (v q) (l q lq))
 
   -- where each check equal to 0 is hit
-  pub many-ones : ((q : ℕ) → q < J → 1 ≤ x q + h q)
-      → sum_below J (λ q. v q * w q) ≤ sum_below J (λ q. v q * x q * w q) + sum_below J (λ q. v q * h q * w q)
+  pub many-ones : ((q : ℕ) → q < J → 1 ≤ x q + h q) → sum_below J v ≤ sum_below J (λ q. v q * x q) + sum_below J (λ q. v q * h q)
   many-ones l =
-      le_trans (sum_mono J (λ q. v q * w q) (λ q. v q * x q * w q + v q * h q * w q) (λ q lq. part q (l q lq)))
-      (le_of_eq (sum-add J (λ q. v q * x q * w q) (λ q. v q * h q * w q)))
-    where
-      part : (q : ℕ) → 1 ≤ x q + h q → v q * w q ≤ v q * x q * w q + v q * h q * w q
-      part q lq =
-          le_trans
-          (mul-le-mul_right (w q) (le_trans (le_of_eq (sym (mul-one (v q)))) (le_trans (mul-le-mul_left (v q) lq) (le_of_eq (mul-add (v q) (x q) (h q))))))
-          (le_of_eq (add-mul (v q * x q) (v q * h q) (w q)))
+      le_trans
+      (sum_mono J v (λ q. v q * x q + v q * h q)
+      (λ q lq. le_trans (le_of_eq (sym (mul-one (v q)))) (le_trans (mul-le-mul_left (v q) (l q lq)) (le_of_eq (mul-add (v q) (x q) (h q))))))
+      (le_of_eq (sum-add J (λ q. v q * x q) (λ q. v q * h q)))
 
 -- ---- how many checks can be hit, where no digit but the own one is touched by two that vote
 module _ (J B S i : ℕ) (v : ℕ → ℕ) (t : ℕ → ℕ → ℕ → ℕ) (e : ℕ → ℕ → ℕ)

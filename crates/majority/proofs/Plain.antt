@@ -1,4 +1,4 @@
--- Where every check weighs one and nothing is erased, every check votes: the rule and the condition are then the former ones. And the laws of the plain rule, for those who use that
+-- Where nothing is erased every check votes: the rule and the condition are then the former ones. And the laws of the plain rule, for those who use that
 -- case alone.
 use Prim.Native.Nat.{ℕ, suc, ◌+◌, ◌-◌, ◌*◌, ◌^◌, ◌<◌, ◌≤◌, min}
 use mathlib.Core.Path.{◌≡◌, ap, ap₂, ◌∙◌}
@@ -19,12 +19,11 @@ use Rattle.code.specs.declared.Card.{Card}
 use Rattle.code.proofs.Besides.{besides-other}
 use Rattle.code.proofs.Frames.{digit-out}
 use Rattle.code.proofs.Judging.{no-clash}
-use Rattle.majority.specs.Rule.{unweighted, voting, voters, check_at, decide, corrected}
-use Rattle.majority.specs.AsSent.{wrong, touched, wrong_touched, CorrectableByWeight}
-use Rattle.majority.specs.Plain.{decide_frame, decided, decoded, Correctable, NoneErased, Former, FormerCorrectable}
+use Rattle.majority.specs.Rule.{voting, voters, check_at, votes, decide, corrected}
+use Rattle.majority.specs.AsSent.{wrong, touched, wrong_touched}
+use Rattle.majority.specs.Plain.{decide_frame, decided, decoded, Correctable, NoneErased, Former}
 use Rattle.majority.proofs.Streams as streams
-use Rattle.majority.proofs.Counted as counting
-use Rattle.majority.proofs.Counted.{votes, decide-counted, few-outweighed}
+use Rattle.majority.proofs.Theorem as theorem
 
 module _ (c : Card) (erased : List ℕ) (u : ℕ) (none : NoneErased c erased u) where
   pub every-votes : (i q : ℕ) → voting c erased u i q ≡ 1
@@ -41,10 +40,9 @@ module _ (c : Card) (erased : List ℕ) (u : ℕ) (none : NoneErased c erased u)
   all_of i which = sum-cong (count c i) (λ q. ap (λ x. x * which q) (every-votes i q) ∙ one-mul (which q))
 
   pub decide-plain : (frames errors : List ℕ) (i : ℕ)
-      → decide unweighted c frames erased errors u i ≡ cond (ltb (count c i) (2 * sum_below (count c i) (λ q. check_at c frames errors u i q))) 1 0
-  unfolding votes
-  decide-plain frames errors i =
-      decide-counted c frames erased errors u i ∙ ap₂ (λ x y. cond (ltb x (2 * y)) 1 0) (all_vote i) (all_of i (λ q. check_at c frames errors u i q))
+      → decide c frames erased errors u i ≡ cond (ltb (count c i) (2 * sum_below (count c i) (λ q. check_at c frames errors u i q))) 1 0
+  unfolding decide votes
+  decide-plain frames errors i = ap₂ (λ x y. cond (ltb x (2 * y)) 1 0) (all_vote i) (all_of i (λ q. check_at c frames errors u i q))
 
   module _ (G : Guarantees c) (i : ℕ) (li : i < c.k) where
     -- the own digit is touched by every check, and there is one
@@ -84,26 +82,20 @@ none-erased c u b s lb ls = digit-out [] s (u + b) (omega arith)
 
 module _ (c : Card) (frames : List ℕ) where
   pub decided-length : (n : ℕ) → length (decided c frames n) ≡ n
-  decided-length n = streams.decided-length unweighted c frames [] n
+  decided-length n = streams.decided-length c frames [] n
 
   pub decided-at : (n u : ℕ) → u < n → get_or (decided c frames n) u 0 ≡ decide_frame c frames (decided c frames u) u
-  decided-at n u l = streams.decided-at unweighted c frames [] n u l
+  decided-at n u l = streams.decided-at c frames [] n u l
 
   pub decoded-length : length (decoded c frames) ≡ length frames - c.m
-  decoded-length = streams.decoded-length unweighted c frames []
+  decoded-length = streams.decoded-length c frames []
 
   pub decoded-at : (u : ℕ) → u < length frames - c.m → get_or (decoded c frames) u 0 ≡ corrected c frames (decided c frames (length frames - c.m)) u
-  decoded-at u l = streams.decoded-at unweighted c frames [] u l
+  decoded-at u l = streams.decoded-at c frames [] u l
 
 pub decoded-as-sent : (c : Card) → Guarantees c → (info frames : List ℕ)
     → ((u : ℕ) → u < length info → get_or info u 0 < 2 ^ c.k)
     → length frames ≡ length info + c.m
     → Correctable c info frames
     → decoded c frames ≡ info
-decoded-as-sent c G info frames small whole few = counting.decoded-as-sent c G info frames [] small whole few
-
--- the notice's condition is R-6's with nothing erased, and so implies R-8's where every check weighs one
-pub notice-outweighed : (c : Card) → Guarantees c → (info frames : List ℕ) → FormerCorrectable c info frames → CorrectableByWeight unweighted c info frames []
-notice-outweighed c G info frames few u i lu li =
-    let plain = former c [] u (none-erased c u) G i li frames in
-    few-outweighed c G info frames [] u i li (omega (arith, few u i lu li, plain.counted info, plain.all_vote))
+decoded-as-sent c G info frames small whole few = theorem.decoded-as-sent c G info frames [] small whole few

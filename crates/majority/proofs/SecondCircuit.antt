@@ -24,11 +24,10 @@ use Rattle.code.specs.declared.Card.{Card}
 use Rattle.code.proofs.Besides.{besides-own, besides-le, own-apart}
 use Rattle.code.proofs.Frames.{digit-le}
 use Rattle.code.proofs.ParityLaws.{parity_sum, parity-sum, parity-add, parity-same, parity-from}
-use Rattle.majority.specs.Rule.{unweighted, syndrome, cleared, check_at, voting, voters, decide, decided, corrected, decoded}
+use Rattle.majority.specs.Rule.{syndrome, cleared, check_at, voting, voters, votes, decide, decided, corrected, decoded}
 use Rattle.majority.specs.SecondCircuit.{entering, vote, votes_for_one, decide_digit, decide_digits, decided_digits, decoded_by_digits}
 use Rattle.majority.proofs.Streams.{test-as-number, decided-digit, decided-none, decoded-length, decoded-at}
 use Rattle.majority.proofs.Majority.{touched_sum}
-use Rattle.majority.proofs.Counted.{votes, decide-counted}
 use Rattle.majority.proofs.Linear.{check_sum, check-touched}
 
 -- ---- the majority: more votes than half, fewer, or a tie
@@ -196,13 +195,14 @@ module _ (c : Card) (frames errors digits : List ℕ) (u : ℕ)
         sym (mul-add (voting c erased u i q) _ _) ∙ ap (λ x. voting c erased u i q * x) e ∙ mul-one _)
 
     -- the digit is the received one plus the error that the first circuit decides
-    digit-decided : decide_digit c frames erased digits u i ≡ (digit frames i u + decide unweighted c frames erased errors u i) % 2
+    digit-decided : decide_digit c frames erased digits u i ≡ (digit frames i u + decide c frames erased errors u i) % 2
+    unfolding decide
     digit-decided = go (dec_lt 0 (digit frames i u))
       where
-        go : Dec (0 < digit frames i u) → decide_digit c frames erased digits u i ≡ (digit frames i u + decide unweighted c frames erased errors u i) % 2
+        go : Dec (0 < digit frames i u) → decide_digit c frames erased digits u i ≡ (digit frames i u + decide c frames erased errors u i) % 2
         go (yes l) =
-            let r = digit-le frames i u in let e = votes-of_one (omega arith) in rw (decide-counted c frames erased errors u i, test-as-number, digit-as-number c frames erased digits u i) (omega arith)
-        go (no n) = let e = votes-of-zero (omega arith) in rw (decide-counted c frames erased errors u i, test-as-number, digit-as-number c frames erased digits u i) (omega arith)
+            let r = digit-le frames i u in let e = votes-of_one (omega arith) in rw (test-as-number, digit-as-number c frames erased digits u i) (omega arith)
+        go (no n) = let e = votes-of-zero (omega arith) in rw (test-as-number, digit-as-number c frames erased digits u i) (omega arith)
 
 -- ---- the streams
 module _ (c : Card) (frames erased : List ℕ) where
@@ -222,27 +222,27 @@ module _ (c : Card) (frames erased : List ℕ) where
 
 module _ (c : Card) (G : Guarantees c) (frames erased : List ℕ) where
   -- one frame after the other, the decided digits are the received ones plus the decided errors
-  digits_are : (n v i : ℕ) → i < c.k → v < n → digit (decided_digits c frames erased n) i v ≡ (digit frames i v + digit (decided unweighted c frames erased n) i v) % 2
+  digits_are : (n v i : ℕ) → i < c.k → v < n → digit (decided_digits c frames erased n) i v ≡ (digit frames i v + digit (decided c frames erased n) i v) % 2
   digits_are zero v i li l = absurd (omega arith)
   digits_are (suc n) v i li l =
       digit-stays c frames erased (suc n) v i l li
       ∙ ⊎_elim
       (λ e.
       rw e
-      (digit-decided c frames (decided unweighted c frames erased n) (decided_digits c frames erased n) n (λ w s ls lw. digits_are n w s ls lw) (decided-none unweighted c frames erased n) i li
+      (digit-decided c frames (decided c frames erased n) (decided_digits c frames erased n) n (λ w s ls lw. digits_are n w s ls lw) (decided-none c frames erased n) i li
       (G.orthogonal i li).own erased))
-      (λ below. sym (digit-stays c frames erased n v i below li) ∙ digits_are n v i li below ∙ ap (λ x. (digit frames i v + x) % 2) (decided-digit unweighted c frames erased n v i below li))
+      (λ below. sym (digit-stays c frames erased n v i below li) ∙ digits_are n v i li below ∙ ap (λ x. (digit frames i v + x) % 2) (decided-digit c frames erased n v i below li))
       (last-or-below l)
-      ∙ ap (λ x. (digit frames i v + x) % 2) (sym (decided-digit unweighted c frames erased (suc n) v i l li))
+      ∙ ap (λ x. (digit frames i v + x) % 2) (sym (decided-digit c frames erased (suc n) v i l li))
 
 -- the theorem: for every stream the two circuits hand out the same frames
-pub circuits-agree : (c : Card) → Guarantees c → (frames erased : List ℕ) → decoded_by_digits c frames erased ≡ decoded unweighted c frames erased
+pub circuits-agree : (c : Card) → Guarantees c → (frames erased : List ℕ) → decoded_by_digits c frames erased ≡ decoded c frames erased
 unfolding decoded_by_digits decide_digits corrected
 circuits-agree c G frames erased =
     let n = length frames - c.m in
-    ext_get_or 0 _ _ (digits-length c frames erased n ∙ sym (decoded-length unweighted c frames erased))
+    ext_get_or 0 _ _ (digits-length c frames erased n ∙ sym (decoded-length c frames erased))
     (λ u lu.
     let l : u < n = omega (arith, digits-length c frames erased n) in
     digits-at c frames erased n u l
     ∙ from_digits-same c.k _ _ (λ i li. sym (digit-stays c frames erased n u i l li) ∙ digits_are c G frames erased n u i li l)
-    ∙ sym (decoded-at unweighted c frames erased u l))
+    ∙ sym (decoded-at c frames erased u l))

@@ -1,26 +1,24 @@
--- The plain rule, which is that of a burst: every check weighs one (`Counted`), and nothing is erased. It is the rule as it stood before document 02's R-6 and
--- R-8, and so is the condition (`Former`).
+-- The plain rule, which is that of a burst: nothing is erased. It is the rule as it stood before document 02's R-6, and so is the condition (`Former`).
 -- Assumes nothing.
-use Rattle.std.specs.Prelude.{ℕ, suc, ◌+◌, ◌*◌, ◌/◌, ◌≤◌, ◌<◌, min, ◌≡◌, cond, List, [], ltb, length}
+use Rattle.std.specs.Prelude.{ℕ, suc, ◌+◌, ◌*◌, ◌≤◌, ◌<◌, min, ◌≡◌, cond, List, [], ltb}
 use Rattle.bits.specs.Sums.{sum_below}
 use Rattle.code.specs.Code.{digit}
 use Rattle.code.specs.Checks.{count, touches}
 use Rattle.code.specs.declared.Card.{Card}
 use Rattle.majority.specs.Rule as Rule
-use Rattle.majority.specs.Rule.{unweighted}
 use Rattle.majority.specs.AsSent as AsSent
 
 abbrev pub decide_frame : Card → List ℕ → List ℕ → ℕ → ℕ
-decide_frame c frames errors u = Rule.decide_frame unweighted c frames [] errors u
+decide_frame c frames errors u = Rule.decide_frame c frames [] errors u
 
 abbrev pub decided : Card → List ℕ → ℕ → List ℕ
-decided c frames n = Rule.decided unweighted c frames [] n
+decided c frames n = Rule.decided c frames [] n
 
 abbrev pub decoded : Card → List ℕ → List ℕ
-decoded c frames = Rule.decoded unweighted c frames []
+decoded c frames = Rule.decoded c frames []
 
 abbrev pub figure_by : Card → List ℕ → ℕ
-figure_by c frames = Rule.figure_by unweighted c frames []
+figure_by c frames = Rule.figure_by c frames []
 
 abbrev pub Correctable : Card → List ℕ → List ℕ → Type 0
 Correctable c info frames = AsSent.Correctable c info frames []
@@ -29,29 +27,14 @@ Correctable c info frames = AsSent.Correctable c info frames []
 abbrev pub NoneErased : Card → List ℕ → ℕ → Type 0
 NoneErased c erased u = (b s : ℕ) → b ≤ c.m → s < c.k + c.p → digit erased s (u + b) ≡ 0
 
--- what the rule is for digit i at u where every check weighs one, by R-6: "1 exactly if twice the number of checks equal to 1", of those that vote, "is more
--- than J", which "is the number of checks that do"
-pub record Counted (c : Card) (frames erased : List ℕ) (u i : ℕ) : Type 0 where
-  pub decision : (errors : List ℕ)
-      → Rule.decide unweighted c frames erased errors u i
-      ≡ cond (ltb (Rule.voters c erased u i) (2 * sum_below (count c i) (λ q. Rule.voting c erased u i q * Rule.check_at c frames errors u i q))) 1 0
-
 -- what the rule and the condition are for digit i at u, where nothing that they look at is erased: those of document 01, in its words
 pub record Former (c : Card) (frames erased : List ℕ) (u i : ℕ) : Type 0 where
   -- "1 exactly if twice the number of checks equal to 1 is more than J"
   pub decision : (errors : List ℕ)
-      → Rule.decide unweighted c frames erased errors u i ≡ cond (ltb (count c i) (2 * sum_below (count c i) (λ q. Rule.check_at c frames errors u i q))) 1 0
+      → Rule.decide c frames erased errors u i ≡ cond (ltb (count c i) (2 * sum_below (count c i) (λ q. Rule.check_at c frames errors u i q))) 1 0
   -- half of J ..
   pub all_vote : Rule.voters c erased u i ≡ count c i
   -- .. and the wrong digits among those that at least one of the J checks touches, each counted once
   pub counted : (info : List ℕ)
       → AsSent.wrong_touched c info frames erased u i
       ≡ sum_below (suc c.m) (λ b. sum_below (c.k + c.p) (λ s. min 1 (sum_below (count c i) (λ q. touches c i q b s)) * AsSent.wrong c info frames (u + b) s))
-
--- the notice's condition in its own words, where nothing is erased: of the digits that at least one of the J checks touches, each counted once, at most half
--- of J, rounded down, are wrong
-abbrev pub FormerCorrectable : Card → List ℕ → List ℕ → Type 0
-FormerCorrectable c info frames =
-    (u i : ℕ) → u < length info → i < c.k
-    → sum_below (suc c.m) (λ b. sum_below (c.k + c.p) (λ s. min 1 (sum_below (count c i) (λ q. touches c i q b s)) * AsSent.wrong c info frames (u + b) s))
-    ≤ count c i / 2

@@ -1,8 +1,7 @@
--- Massey's majority rule with feedback on whole streams: document 01, "Checks", with erased digits and weights by document 02, R-6 and R-8.
+-- Massey's majority rule with feedback on whole streams: document 01, "Checks", with erased digits by document 02, R-6.
 -- `frames` are the received frames from time 0 on, an erased digit received as 0, and `erased` has a 1 for each digit of theirs that is erased; `errors`
 -- are the decided errors of the frames before the one that is decided, a digit for each information stream. All three are lists of frames as in the
--- code (`code`, `Code`). Weights stand before the card, so that the rule with its weights given is a rule. In a plain session every check weighs one, and in
--- a burst nothing is erased either (`Plain`).
+-- code (`code`, `Code`). The case in which nothing is erased is that of a burst (`Plain`).
 -- Assumes nothing.
 use Rattle.std.specs.Prelude.{ℕ, suc, ◌+◌, ◌-◌, ◌*◌, ◌%◌, cond, List, length, ltb}
 use Rattle.bits.specs.Sums.{sum_below, up_to, grown}
@@ -33,50 +32,32 @@ voting c erased u i q = 1 - clashes c i (check_mask c i q) (λ b s. digit erased
 unfoldable pub voters : Card → List ℕ → ℕ → ℕ → ℕ
 voters c erased u i = sum_below (count c i) (voting c erased u i)
 
--- weights in whole sixteenths: "w0 for the digit itself and one per check", that of check q of stream i
-pub record Weights : Type 0 where
-  pub w0 : ℕ
-  pub each : ℕ → ℕ → ℕ
+-- the number of those equal to 1
+unfoldable pub votes : Card → List ℕ → List ℕ → List ℕ → ℕ → ℕ → ℕ
+votes c frames erased errors u i = sum_below (count c i) (λ q. voting c erased u i q * check_at c frames errors u i q)
 
--- those of the plain rule: the digit itself weighs nothing and every check one, in whatever unit
-abbrev pub unweighted : Weights
-unweighted = record { w0 = 0; each = λ i q. 1 }
-
--- "the sum of the weights" of those checks of stream i that have a 1 in `which`
-unfoldable pub weight_of : Weights → Card → ℕ → (ℕ → ℕ) → ℕ
-weight_of w c i which = sum_below (count c i) (λ q. which q * w.each i q)
-
--- of all voting checks: document 02's W
-unfoldable pub voting_weight : Weights → Card → List ℕ → ℕ → ℕ → ℕ
-voting_weight w c erased u i = weight_of w c i (voting c erased u i)
-
--- of the voting checks equal to 1
-unfoldable pub ones_weight : Weights → Card → List ℕ → List ℕ → List ℕ → ℕ → ℕ → ℕ
-ones_weight w c frames erased errors u i = weight_of w c i (λ q. voting c erased u i q * check_at c frames errors u i q)
-
--- the decided error of digit i at u: "1 exactly if twice the sum of the weights of the voting checks equal to 1 is more than w0 plus the sum over all voting
--- checks"
-unfoldable pub decide : Weights → Card → List ℕ → List ℕ → List ℕ → ℕ → ℕ → ℕ
-decide w c frames erased errors u i = cond (ltb (w.w0 + voting_weight w c erased u i) (2 * ones_weight w c frames erased errors u i)) 1 0
+-- the decided error of digit i at u: 1 exactly if twice the number of voting checks equal to 1 is more than J; a tie gives 0, and so does no vote
+unfoldable pub decide : Card → List ℕ → List ℕ → List ℕ → ℕ → ℕ → ℕ
+decide c frames erased errors u i = cond (ltb (voters c erased u i) (2 * votes c frames erased errors u i)) 1 0
 
 -- all streams of frame u are decided before any is fed back
-unfoldable pub decide_frame : Weights → Card → List ℕ → List ℕ → List ℕ → ℕ → ℕ
-decide_frame w c frames erased errors u = from_digits c.k (decide w c frames erased errors u)
+unfoldable pub decide_frame : Card → List ℕ → List ℕ → List ℕ → ℕ → ℕ
+decide_frame c frames erased errors u = from_digits c.k (decide c frames erased errors u)
 
 -- the decided errors of the first n frames
-unfoldable pub decided : Weights → Card → List ℕ → List ℕ → ℕ → List ℕ
-decided w c frames erased n = grown (decide_frame w c frames erased) n
+unfoldable pub decided : Card → List ℕ → List ℕ → ℕ → List ℕ
+decided c frames erased n = grown (decide_frame c frames erased) n
 
 -- the frame of time u as it is handed out: received plus decided
 unfoldable pub corrected : Card → List ℕ → List ℕ → ℕ → ℕ
 corrected c frames errors u = from_digits c.k (λ i. (digit frames i u + digit errors i u) % 2)
 
 -- the frames handed out: none for the first m received, then for each one the frame m before it
-unfoldable pub decoded : Weights → Card → List ℕ → List ℕ → List ℕ
-decoded w c frames erased = up_to (length frames - c.m) (corrected c frames (decided w c frames erased (length frames - c.m)))
+unfoldable pub decoded : Card → List ℕ → List ℕ → List ℕ
+decoded c frames erased = up_to (length frames - c.m) (corrected c frames (decided c frames erased (length frames - c.m)))
 
 -- document 01's "link figure": the count of ones in the cleared syndromes of received frames later than the last frame handed out
-unfoldable pub figure_by : Weights → Card → List ℕ → List ℕ → ℕ
-figure_by w c frames erased =
+unfoldable pub figure_by : Card → List ℕ → List ℕ → ℕ
+figure_by c frames erased =
     let u = length frames - c.m in
-    sum_below c.p (λ j. sum_below (length frames - u) (λ a. cleared c frames (decided w c frames erased u) (u + a) j))
+    sum_below c.p (λ j. sum_below (length frames - u) (λ a. cleared c frames (decided c frames erased u) (u + a) j))

@@ -1,20 +1,19 @@
 -- An opened session: with an accepted card its claims hold, with a refused one every call is refused. The session is of any kind.
-use Prim.Native.Nat.{ℕ, zero, suc}
-use mathlib.Core.Path.{◌≡◌, refl, sym, ap, ap₂, ◌∙◌, subst}
+use Prim.Native.Nat.{ℕ}
+use mathlib.Core.Path.{◌≡◌, sym, ap, ap₂, ◌∙◌, subst}
 use mathlib.Core.List.{List}
 use native.Mathlib.Nat.{le_of_eq}
 use Rattle.code.specs.Code.{most_frames}
 use Rattle.code.specs.Guarantees.{Guarantees}
 use Rattle.code.specs.declared.Card.{Card}
-use Rattle.card.specs.Fields.{empty_card}
-use Rattle.card.specs.Outcome.{Outcome, accepted, refused, outcome_of, CardOutcome}
+use Rattle.card.specs.Outcome.{Outcome, outcome_of, CardOutcome}
 use Rattle.card.specs.Promise.{CardPromise}
 use Rattle.card.specs.Reading.{read_card}
 use Rattle.card.specs.declared.CardRead.{CardRead}
 use Rattle.card.specs.declared.CardRule.TheVariants.{Present}
 use Rattle.receiving.specs.Receive.{Circuit, open_of, refused_of}
 use Rattle.receiving.specs.Calls.{Call, byte, readings, number_in, reply_of}
-use Rattle.receiving.specs.Opening.{counted_at, Opens, OpenOutcome, opened, card_refused, other_refused, opened_as, session_as, Closed, OpensWith}
+use Rattle.receiving.specs.Opening.{counted_at, Opens}
 use Rattle.receiving.proofs.Outcomes.{admission, other_number, no_room, reply-refused}
 
 -- a session without room for a frame
@@ -50,46 +49,5 @@ module _ {S : Type 0} (x : Circuit S) (Claims : Card → S → Type 0) (counted 
       outcome_is : outcome_of read.verdict ≡ (read_card bytes).outcome
       outcome_is = ap (λ (r : CardOutcome). r.outcome) promise.is_read
 
-      card_is : read.card ≡ (read_card bytes).card
-      card_is = ap (λ (r : CardOutcome). r.card) promise.is_read
-
--- ---- with a card and more
-
-abbrev IsOpened : OpenOutcome → Type 0
-IsOpened opened = Unit {0}
-IsOpened (card_refused n offset) = ⊥
-IsOpened (other_refused n) = ⊥
-
--- it is opened only with an accepted card, where nothing that comes with it is refused
-opened-only : (o : Outcome) (n : ℕ) → opened_as o n ≡ opened → (o ≡ accepted) × (n ≡ 0)
-unfolding opened_as
-opened-only accepted zero e = (refl, refl)
-opened-only accepted (suc n) e = absurd (subst IsOpened (sym e) tt)
-opened-only (refused number offset) n e = absurd (subst IsOpened (sym e) tt)
-
-module _ {S : Type 0} (x : Circuit S) (fault : Card → ℕ) (fresh : Card → S) (Claims : Card → S → Type 0) (counted : (c : Card) (n : ℕ) → x.received (x.fresh c n) ≡ n)
-    (claims-of : (c : Card) → Guarantees c → fault c ≡ 0 → Claims c (fresh c)) where
-  closed : Closed x (x.fresh empty_card most_frames)
-  closed = record { other_refused = refused-other x _ (counted empty_card most_frames); own_refused = refused-own x _ (counted empty_card most_frames) }
-
-  shut-as : (outcome : OpenOutcome) (c : Card) → (outcome ≡ opened → ⊥) → Closed x (session_as x fresh outcome c)
-  shut-as opened c n = absurd (n refl)
-  shut-as (card_refused n offset) c _ = closed
-  shut-as (other_refused n) c _ = closed
-
-  pub opens-with : (bytes : List ℕ) (read : CardRead) → CardPromise Present bytes read → (outcome : OpenOutcome) (s : S)
-      → outcome ≡ opened_as (outcome_of read.verdict) (fault read.card) → s ≡ session_as x fresh outcome read.card
-      → OpensWith x fault fresh Claims bytes outcome s
-  opens-with bytes read promise outcome s e is =
-      record {
-        outcome_is = e ∙ ap (λ (r : CardOutcome). opened_as r.outcome (fault r.card)) promise.is_read;
-        session_is = is ∙ ap (session_as x fresh outcome) card_is;
-        claims = λ o.
-            let w = opened-only (outcome_of read.verdict) (fault read.card) (sym e ∙ o) in
-            subst (λ (c : Card). Claims c s) card_is
-            (subst (Claims read.card) (sym (is ∙ ap (λ (q : OpenOutcome). session_as x fresh q read.card) o)) (claims-of read.card (promise.guaranteed w.0) w.1));
-        shut = λ n. subst (Closed x) (sym is) (shut-as outcome read.card n);
-      }
-    where
       card_is : read.card ≡ (read_card bytes).card
       card_is = ap (λ (r : CardOutcome). r.card) promise.is_read

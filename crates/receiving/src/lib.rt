@@ -24,14 +24,6 @@ pub enum Answer {
     Refused(Refusal),
 }
 
-// What opening a session with a card and more comes to, as with weights: the card's faults come first, and what is refused besides has no offset.
-#[derive(Drop)]
-pub enum OpenVerdict {
-    Opened,
-    CardRefused { refusal: Refusal, offset: usize },
-    Refused(Refusal),
-}
-
 // What a reading yields.
 #[derive(Drop)]
 enum ReadDigit {

@@ -18,7 +18,7 @@ use Rattle.receiving.specs.Answers as answer
 use Rattle.receiving.specs.Calls.{Call, byte, readings}
 use Rattle.receiving.specs.declared.Reading.{Reading}
 use Rattle.receiving.specs.declared.Reading.TheVariants.{Level, Erased}
-use Rattle.terms.specs.Terms.{when, first, handed, digits_of, refusal, taken_calls, frames_taken, erased_taken}
+use Rattle.terms.specs.Terms.{when, first, Decided, handed, digits_of, refusal, taken_calls, frames_taken, erased_taken}
 use Rattle.terms.proofs.Calls.{is, is_le}
 use Rattle.terms.specs.Terms.{answers_to, ByTheRule, read_now, read_before, Outside}
 
@@ -100,9 +100,9 @@ module _ (c : Card) where
   answers-as out t (a ∷ calls) = rw (refused_as t a, answers-as out (suc t) calls, answers-as out t calls)
 
   -- ---- a list of calls
-  pub as_before : (Rule : List ℕ → List ℕ → List ℕ → Type 0) (calls : List Call) (given : List Given) → ((t : ℕ) → Outside (c.k + c.p) (get_or (taken_calls read_now c 0 calls) t (byte 0 0)))
-      → ByTheRule Rule read_now c calls given → ByTheRule Rule read_before c calls given
-  as_before Rule calls given out r =
+  pub as_before : (calls : List Call) (given : List Given) → ((t : ℕ) → Outside (c.k + c.p) (get_or (taken_calls read_now c 0 calls) t (byte 0 0)))
+      → ByTheRule read_now c calls given → ByTheRule read_before c calls given
+  as_before calls given out r =
       let l = taken_calls read_now c 0 calls in
       let same : (value : ℕ) → map (digits_of value read_before (c.k + c.p)) (taken_calls read_before c 0 calls) ≡ map (digits_of value read_now (c.k + c.p)) l =
       λ value. ap (map (digits_of value read_before (c.k + c.p))) (taken_as 0 calls) ∙ same_in (c.k + c.p) value l out in

@@ -45,7 +45,7 @@ module _ (card input output : List ℕ) (answer : ℤ) (after : List ℕ) (read 
   unfolding receive_of rule.decoded rule.corrected
   burst-received =
       record {
-        errors = rule.decided rule.unweighted (read_card card).card input [] _;
+        errors = rule.decided (read_card card).card input [] _;
         decided = decided-is (read_card card).card input [];
         by_card = record {
           card_refused = card_refused output (read_card card).outcome _ is;

@@ -8,7 +8,6 @@ pub mod Rewriting
 pub mod Standards
 pub mod SendingCalls
 pub mod Sending
-pub mod Weighing
 pub mod Rule
 pub mod Calls
 pub mod Following
@@ -16,5 +15,4 @@ pub mod Band
 pub mod BandRows
 pub mod Receiving
 pub mod Opening
-pub mod WeightedOpening
 pub mod BurstReceiving

@@ -1,5 +1,5 @@
 -- What opening a session of each circuit with the same bytes comes to, by the page.
-use Prim.Native.Nat.{ℕ, ◌-◌}
+use Prim.Native.Nat.{ℕ}
 use mathlib.Core.Path.{◌≡◌, refl, sym, ap, ap₂, ◌∙◌, subst}
 use mathlib.Core.Logic.{⊎_elim}
 use mathlib.Core.List.{List}
@@ -12,36 +12,24 @@ use Rattle.card.specs.Promise.{CardPromise}
 use Rattle.card.specs.Reading.{read_card}
 use Rattle.card.specs.declared.CardRead.{CardRead}
 use Rattle.card.specs.declared.CardRule.TheVariants.{Present}
-use Rattle.majority.specs.AsSent.{Correctable}
 use Rattle.majority.specs.Rule as rule
 use Rattle.outcomes.proofs.Received.{guaranteed}
 use Rattle.majority.specs.SecondCircuit.{decoded_by_digits}
 use Rattle.majority.proofs.SecondCircuit.{circuits-agree}
-use Rattle.receiving.specs.Calls.{Call, number_in, reply_of, answers, session_after}
+use Rattle.receiving.specs.Calls.{Call, number_in, reply_of, answers}
 use Rattle.receiving.specs.Opening.{counted_at, Opens}
 use Rattle.receiving.specs.Receive.{Circuit, open_of, refused_of}
 use Rattle.decoder.specs.Claims as first-claims
 use Rattle.decoder.specs.Opening as first_opening
-use Rattle.decoder.specs.Receive.{first_circuit, link_figure_of}
+use Rattle.decoder.specs.Receive.{first_circuit}
 use Rattle.decoder.specs.declared.Opened as first-opened
-use Rattle.decoder.specs.declared.Session.{Session}
 use Rattle.digit_decoder.specs.Claims as second-claims
 use Rattle.digit_decoder.specs.Opening as second-opening
 use Rattle.digit_decoder.specs.Receive.{second_circuit}
 use Rattle.digit_decoder.specs.declared.Opened as second-opened
-use Rattle.terms.specs.Terms.{frames_taken, erased_taken, read_now, figure, Opened}
+use Rattle.terms.specs.Terms.{frames_taken, erased_taken, read_now, Opened}
 use Rattle.terms.proofs.Rule.{decided-is, figure-is}
 use Rattle.terms.proofs.Receiving.{frames-are, erased-are, receives}
-
--- the link figure of a session that decides by these weights
-pub figure-by : (w : rule.Weights) (Correctable : Card → List ℕ → List ℕ → List ℕ → Type 0) (c : Card) → Guarantees c → (s : Session) → first-claims.ClaimsBy w Correctable c s
-    → (calls : List Call) → let frames = frames_taken read_now c calls in
-    link_figure_of (session_after first_circuit s calls) ≡ figure c frames (rule.decided w c frames (erased_taken read_now c calls) (length frames - c.m))
-figure-by w Correctable c G s claims calls =
-    let B = claims.by_rule in
-    claims.figure_by_rule calls
-    ∙ ap₂ (rule.figure_by w c) (frames-are first_circuit w (rule.decoded w) Correctable c G s B (λ f g. refl) calls) (erased-are first_circuit w (rule.decoded w) Correctable c G s B (λ f g. refl) calls)
-    ∙ figure-is c w (frames_taken read_now c calls) (erased_taken read_now c calls)
 
 -- a session of any kind
 module _ {S : Type 0} (x : Circuit S) (Claims : Card → S → Type 0) (carded : (c : Card) (n : ℕ) → x.card (x.fresh c n) ≡ c)
@@ -49,7 +37,7 @@ module _ {S : Type 0} (x : Circuit S) (Claims : Card → S → Type 0) (carded :
   claimed : (read_card bytes).outcome ≡ accepted → Claims (read_card bytes).card s
   claimed e = promise.claims (promise.verdict_is ∙ e)
 
-  pub opened-as : (read_card bytes).outcome ≡ accepted → s ≡ open_of x (read_card bytes).card
+  opened-as : (read_card bytes).outcome ≡ accepted → s ≡ open_of x (read_card bytes).card
   unfolding counted_at open_of
   opened-as e = promise.session_is ∙ ap (λ (o : Outcome). x.fresh (read_card bytes).card (counted_at o)) e
 
@@ -76,13 +64,19 @@ module _ (bytes : List ℕ) (read : CardRead) (card-promise : CardPromise Presen
   opened =
       record {
         receives = λ e.
-            receives first_circuit (rule.decoded rule.unweighted) (read_card bytes).card (guaranteed bytes read card-promise e) r.session (first-claimed e).by_rule (λ frames erased. refl);
+            receives first_circuit rule.decoded (read_card bytes).card (guaranteed bytes read card-promise e) r.session (first-claimed e).by_rule (λ frames erased. refl);
         figured = λ e calls.
             let c = (read_card bytes).card in
             let G = guaranteed bytes read card-promise e in
             let frames = frames_taken read_now c calls in
             let erased = erased_taken read_now c calls in
-            (rule.decided rule.unweighted c frames erased _, decided-is c frames erased, figure-by rule.unweighted Correctable c G r.session (first-claimed e) calls);
+            let B = (first-claimed e).by_rule in (
+              rule.decided c frames erased _,
+              decided-is c frames erased,
+              (first-claimed e).figure_by_rule calls
+                  ∙ ap₂ (rule.figure_by c) (frames-are first_circuit rule.decoded c G r.session B (λ f g. refl) calls) (erased-are first_circuit rule.decoded c G r.session B (λ f g. refl) calls)
+                  ∙ figure-is c frames erased,
+            );
         receives_by_digits = λ e.
             let G = guaranteed bytes read card-promise e in
             receives second_circuit decoded_by_digits (read_card bytes).card G q.session (second-claimed e).by_rule (circuits-agree (read_card bytes).card G);

@@ -25,7 +25,7 @@ use Rattle.receiving.specs.Calls.{Call, taken_frames, taken_erased, answers, ans
 use Rattle.receiving.specs.Claims.{ByRule}
 use Rattle.receiving.specs.Receive.{Circuit}
 use Rattle.receiving.proofs.Answers.{answers-length, first-waiting, then-frames}
-use Rattle.terms.specs.Terms.{Decided, handed, frames_taken, erased_taken, taken_calls, ByTheRule, WholeStream, FewWrong, FewWrongPlain, frames_out, read_now, Receives}
+use Rattle.terms.specs.Terms.{handed, frames_taken, erased_taken, taken_calls, ByTheRule, WholeStream, FewWrong, FewWrongOfVotes, frames_out, read_now, Receives}
 use Rattle.terms.proofs.Band.{as_before}
 use Rattle.terms.proofs.Calls.{frame_is, erased-is}
 use Rattle.terms.proofs.Following as following
@@ -39,13 +39,12 @@ handed_out (frame f ∷ later) = ap (λ (l : List ℕ). f ∷ l) (handed_out lat
 handed_out (answer.refused n ∷ later) = handed_out later
 
 -- ---- the rule's answers in their turns
-module _ (w : rule.Weights) (hands : Card → List ℕ → List ℕ → List ℕ) (c : Card)
-    (as-decoded : (frames erased : List ℕ) → hands c frames erased ≡ rule.decoded w c frames erased) (frames erased : List ℕ) where
+module _ (hands : Card → List ℕ → List ℕ → List ℕ) (c : Card) (as-decoded : (frames erased : List ℕ) → hands c frames erased ≡ rule.decoded c frames erased) (frames erased : List ℕ) where
   many : length (hands c frames erased) ≡ length frames - c.m
-  many = ap length (as-decoded frames erased) ∙ decoded-length w c frames erased
+  many = ap length (as-decoded frames erased) ∙ decoded-length c frames erased
 
   in-turn : (u : ℕ) → u < length (answers_by hands c frames erased)
-      → get_or (answers_by hands c frames erased) u waiting ≡ cond (ltb u c.m) waiting (frame (handed c frames (rule.decided w c frames erased (length frames - c.m)) (u - c.m)))
+      → get_or (answers_by hands c frames erased) u waiting ≡ cond (ltb u c.m) waiting (frame (handed c frames (rule.decided c frames erased (length frames - c.m)) (u - c.m)))
   unfolding rule.corrected
   in-turn u l =
       let lu : u < length frames = omega (arith, answers-length hands c frames erased many) in
@@ -53,15 +52,13 @@ module _ (w : rule.Weights) (hands : Card → List ℕ → List ℕ → List ℕ
       (λ (h : c.m ≤ u).
       then-frames hands c frames erased many u lu h
       ∙ ap (λ (l : List ℕ). frame (get_or l (u - c.m) 0)) (as-decoded frames erased)
-      ∙ ap (λ (f : ℕ). frame f) (decoded-at w c frames erased (u - c.m) (omega arith))
+      ∙ ap (λ (f : ℕ). frame f) (decoded-at c frames erased (u - c.m) (omega arith))
       ∙ rw (le-ltb u c.m h))
       (λ (h : u < c.m). first-waiting hands c frames erased many u lu h ∙ rw (lt-ltb u c.m h))
       (le-or-lt c.m u)
 
--- ---- a session that keeps to a rule which hands out what that of these weights does, under a condition of the third term
-module _ {S : Type 0} (x : Circuit S) (w : rule.Weights) (hands : Card → List ℕ → List ℕ → List ℕ) (Correctable : Card → List ℕ → List ℕ → List ℕ → Type 0)
-    (c : Card) (G : Guarantees c) (s : S) (B : ByRule x hands Correctable c s)
-    (as-decoded : (frames erased : List ℕ) → hands c frames erased ≡ rule.decoded w c frames erased) where
+module _ {S : Type 0} (x : Circuit S) (hands : Card → List ℕ → List ℕ → List ℕ) (c : Card) (G : Guarantees c) (s : S) (B : ByRule x hands Correctable c s)
+    (as-decoded : (frames erased : List ℕ) → hands c frames erased ≡ rule.decoded c frames erased) where
   pub frames-are : (calls : List Call) → taken_frames x s calls ≡ frames_taken read_now c calls
   frames-are calls =
       following.taken_is x c G s B.card_kept B.counted call.frame_in calls
@@ -72,50 +69,38 @@ module _ {S : Type 0} (x : Circuit S) (w : rule.Weights) (hands : Card → List 
       following.taken_is x c G s B.card_kept B.counted call.erased_in calls
       ∙ ap (λ (f : Call → ℕ). map f (taken_calls read_now c 0 calls)) (fun_ext (λ a. sym (erased-is (c.k + c.p) a)))
 
-  -- what the page says of its decisions and of the condition
-  module _ (Rule Few : List ℕ → List ℕ → List ℕ → Type 0)
-      (decided : (frames erased : List ℕ) → Rule frames erased (rule.decided w c frames erased (length frames - c.m)))
-      (few-is : (info frames erased : List ℕ) → Few info frames erased → Correctable c info frames erased) where
-    answered : (calls : List Call) → ByTheRule Rule read_now c calls (answers x s calls)
-    answered calls =
-        let frames = frames_taken read_now c calls in
-        let erased = erased_taken read_now c calls in
-        record {
-          errors = rule.decided w c frames erased (length frames - c.m);
-          decided = decided frames erased;
-          answers_are =
-              following.answered x c G s B.card_kept B.counted (handed c frames (rule.decided w c frames erased (length frames - c.m))) (answers_by hands c frames erased)
-              (in-turn w hands c as-decoded frames erased) calls (B.answers_by_rule calls ∙ ap₂ (answers_by hands c) (frames-are calls) (erased-are calls));
-        }
+  answered : (calls : List Call) → ByTheRule read_now c calls (answers x s calls)
+  answered calls =
+      let frames = frames_taken read_now c calls in
+      let erased = erased_taken read_now c calls in
+      record {
+        errors = rule.decided c frames erased (length frames - c.m);
+        decided = decided-is c frames erased;
+        answers_are =
+            following.answered x c G s B.card_kept B.counted (handed c frames (rule.decided c frames erased (length frames - c.m))) (answers_by hands c frames erased)
+            (in-turn hands c as-decoded frames erased) calls (B.answers_by_rule calls ∙ ap₂ (answers_by hands c) (frames-are calls) (erased-are calls));
+      }
 
-    -- a whole stream that is correctable
-    came-out : (calls : List Call) (info : List ℕ) → WholeStream c info (frames_taken read_now c calls)
-        → Correctable c info (frames_taken read_now c calls) (erased_taken read_now c calls) → frames_out (answers x s calls) ≡ info
-    came-out calls info whole few =
-        handed_out (answers x s calls)
-        ∙ B.comes_out_as_sent calls info whole.0 (ap length (frames-are calls) ∙ whole.1)
-        (subst (λ (f : List ℕ). Correctable c info f (taken_erased x s calls)) (sym (frames-are calls))
-        (subst (λ (e : List ℕ). Correctable c info (frames_taken read_now c calls) e) (sym (erased-are calls)) few))
+  -- a whole stream that is correctable
+  came-out : (calls : List Call) (info : List ℕ) → WholeStream c info (frames_taken read_now c calls)
+      → Correctable c info (frames_taken read_now c calls) (erased_taken read_now c calls) → frames_out (answers x s calls) ≡ info
+  came-out calls info whole few =
+      handed_out (answers x s calls)
+      ∙ B.comes_out_as_sent calls info whole.0 (ap length (frames-are calls) ∙ whole.1)
+      (subst (λ (f : List ℕ). Correctable c info f (taken_erased x s calls)) (sym (frames-are calls))
+      (subst (λ (e : List ℕ). Correctable c info (frames_taken read_now c calls) e) (sym (erased-are calls)) few))
 
-    pub receives-by : Receives x Rule Few c s
-    receives-by =
-        record {
-          answered = answered;
-          unchanged = following.unchanged x c G s B.card_kept B.counted;
-          comes_out_as_sent = λ calls info whole few. came-out calls info whole (few-is info (frames_taken read_now c calls) (erased_taken read_now c calls) few);
-          as_before = λ calls out. as_before c Rule calls (answers x s calls) out (answered calls);
-        }
+  none-erased : (erased : List ℕ) → ((u : ℕ) → get_or erased u 0 ≡ 0) → (u : ℕ) → NoneErased c erased u
+  unfolding digit
+  none-erased erased none u b s lb ls = ap (λ (f : ℕ). bit f s) (none (u + b)) ∙ bit-of-zero s
 
--- ---- where every check weighs one
-none-erased : (c : Card) (erased : List ℕ) → ((u : ℕ) → get_or erased u 0 ≡ 0) → (u : ℕ) → NoneErased c erased u
-unfolding digit
-none-erased c erased none u b s lb ls = ap (λ (f : ℕ). bit f s) (none (u + b)) ∙ bit-of-zero s
-
-few-plain : (c : Card) → Guarantees c → (info frames erased : List ℕ) → FewWrongPlain c info frames erased → Correctable c info frames erased
-few-plain c G info frames erased =
-    ⊎_elim (few-of-votes c info frames erased)
-    (λ (few : ((u : ℕ) → get_or erased u 0 ≡ 0) × FewWrong c info frames). few-of-checks c info frames G erased (none-erased c erased few.0) few.1)
-
-pub receives : {S : Type 0} (x : Circuit S) (hands : Card → List ℕ → List ℕ → List ℕ) (c : Card) → Guarantees c → (s : S) → ByRule x hands Correctable c s
-    → ((frames erased : List ℕ) → hands c frames erased ≡ rule.decoded rule.unweighted c frames erased) → Receives x (Decided c) (FewWrongPlain c) c s
-receives x hands c G s B as-decoded = receives-by x rule.unweighted hands Correctable c G s B as-decoded (Decided c) (FewWrongPlain c) (decided-is c) (few-plain c G)
+  pub receives : Receives x c s
+  receives =
+      record {
+        answered = answered;
+        unchanged = following.unchanged x c G s B.card_kept B.counted;
+        comes_out_as_sent = λ calls info none whole few.
+            came-out calls info whole (few-of-checks c info (frames_taken read_now c calls) G (erased_taken read_now c calls) (none-erased (erased_taken read_now c calls) none) few);
+        comes-out-of-votes = λ calls info whole few. came-out calls info whole (few-of-votes c info (frames_taken read_now c calls) (erased_taken read_now c calls) few);
+        as_before = λ calls out. as_before c calls (answers x s calls) out (answered calls);
+      }

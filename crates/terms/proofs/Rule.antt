@@ -12,7 +12,7 @@ use Rattle.bits.specs.Sums.{sum_below, up_to, grown}
 use Rattle.bits.specs.Digits.{bit}
 use Rattle.bits.proofs.Cases.{last-or-below}
 use Rattle.bits.proofs.Lists.{grown-length}
-use Rattle.bits.proofs.Sums.{sum-cong, sum_same}
+use Rattle.bits.proofs.Sums.{sum-cong}
 use Rattle.code.specs.Code.{digit, parity_at}
 use Rattle.code.specs.Checks.{count, check_mask, touches, besides}
 use Rattle.code.specs.Judging.{clashes}
@@ -22,9 +22,8 @@ use Rattle.majority.specs.Rule as rule
 use Rattle.majority.specs.AsSent as sent
 use Rattle.majority.specs.Plain.{NoneErased}
 use Rattle.majority.proofs.Streams.{decided-digit}
-use Rattle.majority.proofs.Counted.{counted}
 use Rattle.majority.proofs.Plain.{former}
-use Rattle.terms.specs.Terms.{own, syndrome, check, votes, Decided, handed, figure, wrong, FewWrong, FewWrongOfVotes, weight, DecidedByWeight, FewHit}
+use Rattle.terms.specs.Terms.{own, syndrome, check, votes, Decided, handed, figure, wrong, FewWrong, FewWrongOfVotes}
 use Rattle.terms.proofs.Own.{besides-is, own_is}
 
 -- what was worked out first is the front of the whole
@@ -61,56 +60,28 @@ module _ (c : Card) where
   voters-are erased u i = sum-cong (count c i) (votes-is erased u i)
 
   -- ---- what is decided
-  module _ (w : rule.Weights) (frames erased : List ℕ) where
-    decided-front : (n u : ℕ) → u ≤ n → take u (rule.decided w c frames erased n) ≡ rule.decided w c frames erased u
+  module _ (frames erased : List ℕ) where
+    decided-front : (n u : ℕ) → u ≤ n → take u (rule.decided c frames erased n) ≡ rule.decided c frames erased u
     unfolding rule.decided
-    decided-front n u l = grown-front (rule.decide_frame w c frames erased) n u l
+    decided-front n u l = grown-front (rule.decide_frame c frames erased) n u l
 
-    -- a check, by the errors decided before u
-    check-then : (u i q : ℕ) → u ≤ length frames - c.m
-        → check c frames (take u (rule.decided w c frames erased (length frames - c.m))) u i q ≡ rule.check_at c frames (rule.decided w c frames erased u) u i q
-    check-then u i q l = ap (λ (e : List ℕ). check c frames e u i q) (decided-front _ u l) ∙ check-is frames (rule.decided w c frames erased u) u i q
+    pub decided-is : Decided c frames erased (rule.decided c frames erased (length frames - c.m))
+    unfolding rule.decide rule.votes
+    decided-is u i l li =
+        let before = rule.decided c frames erased u in
+        decided-digit c frames erased (length frames - c.m) u i l li
+        ∙ sym
+        (ap₂ (λ (v n : ℕ). cond (ltb v (2 * n)) 1 0) (voters-are erased u i)
+        (sum-cong (count c i)
+        (λ q. ap₂ (λ (v n : ℕ). v * n) (votes-is erased u i q) (ap (λ (e : List ℕ). check c frames e u i q) (decided-front _ u (omega arith)) ∙ check-is frames before u i q))))
 
-    pub figure-is : rule.figure_by w c frames erased ≡ figure c frames (rule.decided w c frames erased (length frames - c.m))
+    pub figure-is : rule.figure_by c frames erased ≡ figure c frames (rule.decided c frames erased (length frames - c.m))
     unfolding rule.figure_by
     figure-is =
         let u = length frames - c.m in
         sum-cong c.p
         (λ j. sum-cong (length frames - u)
-        (λ a. sym (ap (λ (e : List ℕ). syndrome c frames e (u + a) j) (decided-front u u (omega arith)) ∙ syndrome-is frames (rule.decided w c frames erased u) (u + a) j)))
-
-  -- every check weighs one
-  pub decided-is : (frames erased : List ℕ) → Decided c frames erased (rule.decided rule.unweighted c frames erased (length frames - c.m))
-  decided-is frames erased u i l li =
-      decided-digit rule.unweighted c frames erased (length frames - c.m) u i l li
-      ∙ (counted c frames erased u i).decision (rule.decided rule.unweighted c frames erased u)
-      ∙ sym
-      (ap₂ (λ (v n : ℕ). cond (ltb v (2 * n)) 1 0) (voters-are erased u i)
-      (sum-cong (count c i) (λ q. ap₂ (λ (v n : ℕ). v * n) (votes-is erased u i q) (check-then rule.unweighted frames erased u i q (omega arith)))))
-
-  -- by weights that are the rule's for the card's checks
-  module _ (v0 : ℕ) (v : ℕ → ℕ) (w : rule.Weights) (own_is : w.w0 ≡ v0) (each-is : (i q : ℕ) → i < c.k → q < count c i → w.each i q ≡ weight c v i q) where
-    weight_is : (i : ℕ) → i < c.k → (which these : ℕ → ℕ) → ((q : ℕ) → these q ≡ which q)
-        → sum_below (count c i) (λ q. these q * weight c v i q) ≡ rule.weight_of w c i which
-    unfolding rule.weight_of
-    weight_is i li which these same = sum_same (count c i) _ _ (λ q lq. ap₂ (λ (x y : ℕ). x * y) (same q) (sym (each-is i q li lq)))
-
-    pub decided-by-weight : (frames erased : List ℕ) → DecidedByWeight c v0 v frames erased (rule.decided w c frames erased (length frames - c.m))
-    unfolding rule.decide rule.voting_weight rule.ones_weight
-    decided-by-weight frames erased u i l li =
-        decided-digit w c frames erased (length frames - c.m) u i l li
-        ∙ sym
-        (ap₂ (λ (x y : ℕ). cond (ltb x (2 * y)) 1 0) (ap₂ (λ (x y : ℕ). x + y) (sym own_is) (weight_is i li _ _ (votes-is erased u i)))
-        (weight_is i li _ _ (λ q. ap₂ (λ (x y : ℕ). x * y) (votes-is erased u i q) (check-then w frames erased u i q (omega arith)))))
-
-    pub few-hit : (info frames erased : List ℕ) → FewHit c v0 v info frames erased → sent.CorrectableByWeight w c info frames erased
-    unfolding sent.hit_weight sent.hit rule.voting_weight clashes touches sent.wrong
-    few-hit info frames erased few u i l li =
-        let all = weight_is i li _ _ (votes-is erased u i) in
-        let hit =
-        weight_is i li _ _ (λ q. ap₂ (λ (x y : ℕ). x * min 1 y) (votes-is erased u i q)
-        (sum-cong (suc c.m) (λ b. sum-cong (c.k + c.p) (λ s. ap (λ (d : ℕ). d * (touches c i q b s * wrong c info frames s (u + b))) (sym (besides-is i b s)))))) in
-        record { if_right = λ z. omega (arith, (few u i l li).0 z, all, hit, own_is); if_wrong = λ z. omega (arith, (few u i l li).1 z, all, hit, own_is) }
+        (λ a. sym (ap (λ (e : List ℕ). syndrome c frames e (u + a) j) (decided-front u u (omega arith)) ∙ syndrome-is frames (rule.decided c frames erased u) (u + a) j)))
 
   -- ---- the third term's condition
   module _ (info frames : List ℕ) where

@@ -5,9 +5,9 @@
 -- card's fields, their bytes and the card that they state, and reading, front to back (`card`: `Fields`, `Layout`, `Reading`); a list of calls, each of which
 -- gets the session that the one before handed back (`encoder`, `receiving`: `Calls`). Streams and times are counted from 0.
 -- Assumes nothing.
-use Rattle.std.specs.Prelude.{ℕ, zero, suc, ◌+◌, ◌-◌, ◌*◌, ◌%◌, ◌^◌, ◌≤◌, ◌<◌, min, max, ◌≡◌, Bool, true, false, cond, not, ◌&&◌, ◌||◌, ◌⊎◌, List, [], ◌∷◌, ◌++◌, map, length, get_or, take, drop, leb, ltb, eqb, ℤ, pos, neg_ℤ, Float}
-use Rattle.std.specs.Float.{nan, inf, fin, binary32}
-use Rattle.std.specs.Float.Ieee.{up, down, of_bits}
+use Rattle.std.specs.Prelude.{ℕ, zero, suc, ◌+◌, ◌-◌, ◌*◌, ◌%◌, ◌^◌, ◌≤◌, ◌<◌, min, max, ◌≡◌, Bool, true, false, cond, not, ◌&&◌, ◌||◌, List, [], ◌∷◌, ◌++◌, map, length, get_or, take, drop, leb, ltb, eqb, ℤ, pos, neg_ℤ}
+use Rattle.std.specs.Float.{nan, inf, fin}
+use Rattle.std.specs.Float.Ieee.{up, down}
 use Rattle.bits.specs.Sums.{sum_below, up_to}
 use Rattle.bits.specs.Digits.{bit, from_digits}
 use Rattle.code.specs.Code.{digit, parity_at, sent}
@@ -25,7 +25,6 @@ use Rattle.encoder.specs.declared.Session as sender
 use Rattle.receiving.specs.Answers.{Given, waiting, frame}
 use Rattle.receiving.specs.Answers as answer
 use Rattle.receiving.specs.Calls.{Call, byte, readings, number_in, reply_of, answers, session_after}
-use Rattle.receiving.specs.Opening.{OpenOutcome, opened, card_refused, other_refused}
 use Rattle.receiving.specs.Receive.{Circuit, refused_of}
 use Rattle.receiving.specs.declared.Reading.{Reading}
 use Rattle.receiving.specs.declared.Reading.TheVariants.{Level, Erased}
@@ -156,10 +155,10 @@ answers_to read c out t (call ∷ calls) =
     cond (eqb number 0) (cond (ltb t c.m) waiting (frame (out (t - c.m))) ∷ answers_to read c out (suc t) calls)
     (answer.refused number ∷ answers_to read c out t calls)
 
--- the answers to all calls are those of the rule, by which these errors are decided in these frames, of which these digits are erased
-pub record ByTheRule (Rule : List ℕ → List ℕ → List ℕ → Type 0) (read : Reading → ℕ) (c : Card) (calls : List Call) (answered : List Given) : Type 0 where
+-- the answers to all calls are those of the rule
+pub record ByTheRule (read : Reading → ℕ) (c : Card) (calls : List Call) (answered : List Given) : Type 0 where
   pub errors : List ℕ
-  pub decided : Rule (frames_taken read c calls) (erased_taken read c calls) errors
+  pub decided : Decided c (frames_taken read c calls) (erased_taken read c calls) errors
   pub answers_are : answered ≡ answers_to read c (handed c (frames_taken read c calls) errors) 0 calls
 
 -- ==== the third term: no accepted card spoils a correctable stream
@@ -227,17 +226,20 @@ unfoldable pub Outside : ℕ → Call → Type 0
 Outside n (byte number f) = Unit {0}
 Outside n (readings number levels) = (s : ℕ) → s < n → (sign : Bool) (m : ℕ) (e : ℤ) → get_or levels s (Level nan) ≡ Level (fin sign m e) → down e ≤ 4 * (m * up e)
 
--- ---- a receiving session freshly opened with the card c, of either circuit, whatever calls it gets, refused ones included; by its rule, and with the condition
--- of the third term on the information frames sent, the frames taken and their erased digits
-pub record Receives {S : Type 0} (x : Circuit S) (Rule Few : List ℕ → List ℕ → List ℕ → Type 0) (c : Card) (s : S) : Type 0 where
-  pub answered : (calls : List Call) → ByTheRule Rule read_now c calls (answers x s calls)
+-- ---- a receiving session freshly opened with the card c, of either circuit, whatever calls it gets, refused ones included
+pub record Receives {S : Type 0} (x : Circuit S) (c : Card) (s : S) : Type 0 where
+  pub answered : (calls : List Call) → ByTheRule read_now c calls (answers x s calls)
   -- a refused call leaves the session as it stood
   pub unchanged : (calls : List Call) (call : Call) → (refusal read_now c (length (taken_calls read_now c 0 calls)) call ≡ 0 → ⊥)
       → session_after x s (calls ++ (call ∷ [])) ≡ session_after x s calls
+  -- the notice's, where nothing is erased
   pub comes_out_as_sent : (calls : List Call) (info : List ℕ) → let frames = frames_taken read_now c calls in
-      WholeStream c info frames → Few info frames (erased_taken read_now c calls) → frames_out (answers x s calls) ≡ info
+      ((u : ℕ) → get_or (erased_taken read_now c calls) u 0 ≡ 0) → WholeStream c info frames → FewWrong c info frames → frames_out (answers x s calls) ≡ info
+  -- R-6's
+  pub comes-out-of-votes : (calls : List Call) (info : List ℕ) → let frames = frames_taken read_now c calls in
+      WholeStream c info frames → FewWrongOfVotes c info frames (erased_taken read_now c calls) → frames_out (answers x s calls) ≡ info
   -- R-7: "Sessions whose levels all lie outside the band decode as they did"
-  pub as_before : (calls : List Call) → ((t : ℕ) → Outside (c.k + c.p) (get_or (taken_calls read_now c 0 calls) t (byte 0 0))) → ByTheRule Rule read_before c calls (answers x s calls)
+  pub as_before : (calls : List Call) → ((t : ℕ) → Outside (c.k + c.p) (get_or (taken_calls read_now c 0 calls) t (byte 0 0))) → ByTheRule read_before c calls (answers x s calls)
 
 -- document 01's "link figure": the ones in the syndromes of received frames later than the last frame handed out, feedback taken out
 abbrev pub figure : Card → List ℕ → List ℕ → ℕ
@@ -245,86 +247,19 @@ figure c frames errors =
     let u = length frames - c.m in
     sum_below c.p (λ j. sum_below (length frames - u) (λ a. syndrome c frames (take u errors) (u + a) j))
 
--- the condition of a plain session: R-6's, or the notice's where nothing is erased
-abbrev pub FewWrongPlain : Card → List ℕ → List ℕ → List ℕ → Type 0
-FewWrongPlain c info frames erased = FewWrongOfVotes c info frames erased ⊎ (((u : ℕ) → get_or erased u 0 ≡ 0) × FewWrong c info frames)
-
 -- a session of each circuit, opened with the same bytes
 pub record Opened (read : CardOutcome) (s : first-circuit.Session) (r : second-circuit.Session) : Type 0 where
-  pub receives : read.outcome ≡ accepted → Receives first_circuit (Decided read.card) (FewWrongPlain read.card) read.card s
+  pub receives : read.outcome ≡ accepted → Receives first_circuit read.card s
   pub figured : read.outcome ≡ accepted → (calls : List Call) →
       let c = read.card in
       let frames = frames_taken read_now c calls in
       (errors : List ℕ) × Decided c frames (erased_taken read_now c calls) errors × (link_figure_of (session_after first_circuit s calls) ≡ figure c frames errors)
   -- R-2: "his second decoder" gives equal frames, "past the correctable number too"; it drops the same votes
-  pub receives_by_digits : read.outcome ≡ accepted → Receives second_circuit (Decided read.card) (FewWrongPlain read.card) read.card r
+  pub receives_by_digits : read.outcome ≡ accepted → Receives second_circuit read.card r
   pub alike : read.outcome ≡ accepted → (calls : List Call) → answers second_circuit r calls ≡ answers first_circuit s calls
   -- a refused card leaves sessions that refuse every call and stay as they are
   pub closed : (number offset : ℕ) → read.outcome ≡ refused number offset → (call : Call)
       → (n : ℕ) × (reply_of first_circuit s call ≡ refused_of s n) × (reply_of second_circuit r call ≡ refused_of r n)
-
--- ==== R-8: weighted votes
-
--- x is a weight of n sixteenths: "a multiple of 1/16 from 0 to 4096; minus zero counts as zero"
-unfoldable pub Weight : Float → ℕ → Type 0
-Weight nan n = ⊥
-Weight (inf sign) n = ⊥
-Weight (fin sign m e) n = (16 * (m * up e) ≡ n * down e) × (n ≤ 4096 * 16) × (sign ≡ true → m ≡ 0)
-
--- w0 and the weights of the card's checks are weights of v0 and of v q sixteenths; those beyond the card's checks are not looked at
-abbrev pub WeightsAre : Card → Float → List Float → ℕ → (ℕ → ℕ) → Type 0
-WeightsAre c w0 checks v0 v = Weight w0 v0 × ((q : ℕ) → q < sum_below c.k (count c) → Weight (get_or checks q (of_bits binary32 0)) (v q))
-
--- the weight of check q of stream i: "stream by stream in check order without gaps"
-abbrev pub weight : Card → (ℕ → ℕ) → ℕ → ℕ → ℕ
-weight c v i q = v (sum_below i (count c) + q)
-
--- document 02's W, the sum over voting checks
-abbrev pub all_weight : Card → (ℕ → ℕ) → List ℕ → ℕ → ℕ → ℕ
-all_weight c v erased u i = sum_below (count c i) (λ q. votes c erased u i q * weight c v i q)
-
--- the decided error of digit i at u is 1 exactly if twice the sum of the weights of the voting checks equal to 1 is more than w0 plus the sum over all voting
--- checks
-abbrev pub DecidedByWeight : Card → ℕ → (ℕ → ℕ) → List ℕ → List ℕ → List ℕ → Type 0
-DecidedByWeight c v0 v frames erased errors =
-    (u i : ℕ) → u < length frames - c.m → i < c.k
-    → digit errors i u
-    ≡ cond
-    (ltb (v0 + all_weight c v erased u i) (2 * sum_below (count c i) (λ q. votes c erased u i q * check c frames (take u errors) u i q * weight c v i q)))
-    1 0
-
--- the weight of the voting checks that are hit: each "touches a wrong digit besides its own"
-abbrev pub hit_weight : Card → (ℕ → ℕ) → List ℕ → List ℕ → List ℕ → ℕ → ℕ → ℕ
-hit_weight c v info frames erased u i =
-    sum_below (count c i)
-    (λ q.
-    votes c erased u i q
-    * min 1 (sum_below (suc c.m) (λ b. sum_below (c.k + c.p) (λ s. (1 - own i b s) * (touches c i q b s * wrong c info frames s (u + b)))))
-    * weight c v i q)
-
--- "for each digit, twice the hit weight is at most W + w0 when its own digit is right, and less than W − w0 when it is wrong"
-abbrev pub FewHit : Card → ℕ → (ℕ → ℕ) → List ℕ → List ℕ → List ℕ → Type 0
-FewHit c v0 v info frames erased =
-    (u i : ℕ) → u < length info → i < c.k
-    → (wrong c info frames i u ≡ 0 → 2 * hit_weight c v info frames erased u i ≤ all_weight c v erased u i + v0)
-    × (wrong c info frames i u ≡ 1 → 2 * hit_weight c v info frames erased u i + v0 < all_weight c v erased u i)
-
--- a weighted session, opened with a card's bytes and a record of weights; `plain` is opened with the same bytes
-pub record OpenedByWeight (read : CardOutcome) (w0 : Float) (checks : List Float) (outcome : OpenOutcome) (s plain : first-circuit.Session) : Type 0 where
-  -- "at opening, after the card's faults", 19
-  pub card_first : (number offset : ℕ) → read.outcome ≡ refused number offset → outcome ≡ card_refused number offset
-  pub weights_taken : read.outcome ≡ accepted → (v0 : ℕ) (v : ℕ → ℕ) → WeightsAre read.card w0 checks v0 v → outcome ≡ opened
-  pub weights_refused : read.outcome ≡ accepted → ((v0 : ℕ) (v : ℕ → ℕ) → WeightsAre read.card w0 checks v0 v → ⊥) → outcome ≡ other_refused 19
-  pub receives : read.outcome ≡ accepted → (v0 : ℕ) (v : ℕ → ℕ) → WeightsAre read.card w0 checks v0 v
-      → Receives first_circuit (DecidedByWeight read.card v0 v) (FewHit read.card v0 v) read.card s
-  pub figured : read.outcome ≡ accepted → (v0 : ℕ) (v : ℕ → ℕ) → WeightsAre read.card w0 checks v0 v → (calls : List Call) →
-      let c = read.card in
-      let frames = frames_taken read_now c calls in
-      (errors : List ℕ) × DecidedByWeight c v0 v frames (erased_taken read_now c calls) errors × (link_figure_of (session_after first_circuit s calls) ≡ figure c frames errors)
-  -- "With w0 = 0 and all others 1 the session equals the plain one"
-  pub as_plain : read.outcome ≡ accepted → WeightsAre read.card w0 checks 0 (λ q. 16) → (calls : List Call) → answers first_circuit s calls ≡ answers first_circuit plain calls
-  -- whatever is refused leaves a session that refuses every call and stays as it is
-  pub closed : (outcome ≡ opened → ⊥) → (call : Call) → (n : ℕ) × (reply_of first_circuit s call ≡ refused_of s n)
 
 -- ==== the third term's last sentence: "a card is accepted exactly when both hold"
 

@@ -4,7 +4,6 @@ ghost use Rattle.card.specs.Outcome.{outcome_of};
 ghost use Rattle.card.specs.Reading.{read_card};
 ghost use Rattle.receiving.specs.Calls.{reply_of};
 ghost use Rattle.receiving.specs.Calls as call;
-ghost use Rattle.receiving.specs.Opening.{open_outcome_of};
 ghost use Rattle.decoder.specs.Opening as first-circuit;
 ghost use Rattle.decoder.specs.Receive.{first_circuit, link_figure_of};
 ghost use Rattle.digit_decoder.specs.Opening as second-circuit;
@@ -13,7 +12,6 @@ ghost use Rattle.terms.specs.Terms as term;
 
 use card::{CardRead, CardRule};
 use receiving::Reading;
-use weights::Weights;
 
 // What the same bytes give: the card, and a session of each circuit.
 #[derive(Drop)]
@@ -35,27 +33,6 @@ pub fn open(card: &[u8]) -> Opened
         read,
         first,
         second,
-    }
-}
-
-// What the same bytes give with a record of weights, and without.
-#[derive(Drop)]
-pub struct OpenedByWeight {
-    pub read: CardRead,
-    pub plain: decoder::Opened,
-    pub weighted: decoder::OpenedWeighted,
-}
-
-pub fn open_weighted(card: &[u8], weights: Weights) -> OpenedByWeight
-    ensures { term.OpenedByWeight (read_card card.now) weights.w0 weights.checks (open_outcome_of result.weighted.verdict) result.weighted.session result.plain.session }
-{
-    let read = card::read_card(CardRule::Present, card);
-    let plain = decoder::open(card);
-    let weighted = decoder::open_weighted(card, weights);
-    OpenedByWeight {
-        read,
-        plain,
-        weighted,
     }
 }
 

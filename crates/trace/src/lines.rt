@@ -23,10 +23,6 @@ pub(crate) fn too_long() {
     text(b"input too long\n");
 }
 
-pub(crate) fn opened() {
-    text(b"open\n");
-}
-
 // Where a record is cut short or of another kind.
 pub(crate) fn bad_record() {
     text(b"bad record\n");
@@ -49,15 +45,6 @@ pub(crate) fn refused_card(refusal: Refusal, offset: usize) {
 
 fn refused(refusal: Refusal) {
     counted(b"refused ", card::refusal_number(refusal) as u64);
-}
-
-// What opening with the card and weights came to.
-pub(crate) fn opening(verdict: receiving::OpenVerdict) {
-    match verdict {
-        receiving::OpenVerdict::Opened => opened(),
-        receiving::OpenVerdict::CardRefused { refusal, offset } => refused_card(refusal, offset),
-        receiving::OpenVerdict::Refused(refusal) => refused(refusal),
-    }
 }
 
 pub(crate) fn received(answer: receiving::Answer) {

@@ -25,16 +25,13 @@ fn trace(input: &[u8]) {
     match verdict {
         Verdict::Refused { refusal, offset } => lines::refused_card(refusal, offset),
         Verdict::Accepted => {
-            lines::opened();
+            lines::text(b"open\n");
             let second = digit_decoder::open(card);
-            let weighted = decoder::open_weighted(card, records::plain_weights());
             let sender = encoder::open(card);
             records::all(
                 &rest[length..],
-                card,
                 first.session,
                 second.session,
-                weighted.session,
                 sender.session,
             );
         }

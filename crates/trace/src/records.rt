@@ -2,8 +2,7 @@
 ghost use Rattle.std.specs.Prelude.{◌<◌, ◌≤◌};
 
 use crate::lines;
-use receiving::{OpenVerdict, Reading};
-use weights::{MOST_WEIGHTS, Weights};
+use receiving::Reading;
 
 // Byte i, zero beyond the record.
 fn byte(record: &[u8], i: usize) -> u8 {
@@ -12,7 +11,7 @@ fn byte(record: &[u8], i: usize) -> u8 {
 
 // How many bytes a record of this kind has, 0 for no kind.
 fn size(kind: u8) -> usize
-    ensures { result ≤ 165 }
+    ensures { result ≤ 42 }
 {
     match kind {
         b'b' => 3,
@@ -21,7 +20,6 @@ fn size(kind: u8) -> usize
         b'i' => 2,
         b't' => 1,
         b's' => 2,
-        b'w' => 5 + 4 * MOST_WEIGHTS,
         _ => 0,
     }
 }
@@ -80,36 +78,13 @@ fn readings(record: &[u8]) -> [Reading; 8] {
     ]
 }
 
-// The weights of a record: w0, and then one for each check.
-fn weights(record: &[u8]) -> Weights {
-    let mut checks = [0.0f32; MOST_WEIGHTS];
-    let mut q = 0;
-    while q < MOST_WEIGHTS {
-        checks[q] = level(pattern(record, 5 + q * 4));
-        q += 1;
-    }
-    Weights {
-        w0: level(pattern(record, 1)),
-        checks,
-    }
-}
-
-// Those before the first such record: w0 is 0, and every check weighs one.
-pub(crate) fn plain_weights() -> Weights {
-    Weights {
-        w0: 0.0,
-        checks: [1.0f32; MOST_WEIGHTS],
-    }
-}
-
 // The sessions that the records drive.
 #[derive(Drop)]
 struct Sessions {
     first: decoder::Session,
     second: digit_decoder::Session,
-    weighted: decoder::Session,
     sender: encoder::Session,
-    selected: u8, // the receiving session that gets the frames: 0 the first, 1 the second, 2 the weighted one
+    selected: u8, // the receiving session that gets the frames: 0 the first, 1 the second
 }
 
 fn received_by_first(mut s: Sessions, received: decoder::Received) -> Sessions {
@@ -117,14 +92,6 @@ fn received_by_first(mut s: Sessions, received: decoder::Received) -> Sessions {
     lines::received(answer);
     let session = received.session;
     s.first = session;
-    s
-}
-
-fn received_by_weighted(mut s: Sessions, received: decoder::Received) -> Sessions {
-    let answer = received.answer;
-    lines::received(answer);
-    let session = received.session;
-    s.weighted = session;
     s
 }
 
@@ -150,26 +117,10 @@ fn selects(mut s: Sessions, selected: u8) -> Sessions {
     s
 }
 
-// Opens the weighted session anew. Where the weights are refused the former one stays as it stood.
-fn opens_weighted(mut s: Sessions, card: &[u8], weights: Weights) -> Sessions {
-    let opened = decoder::open_weighted(card, weights);
-    let verdict = opened.verdict;
-    lines::opening(verdict);
-    if let OpenVerdict::Opened = verdict {
-        let session = opened.session;
-        s.weighted = session;
-    }
-    s
-}
-
 fn receives_byte(s: Sessions, number: u8, frame: u8) -> Sessions {
     if s.selected == 0 {
         let session = s.first;
         return received_by_first(s, decoder::receive_byte(session, number, frame));
-    }
-    if s.selected == 2 {
-        let session = s.weighted;
-        return received_by_weighted(s, decoder::receive_byte(session, number, frame));
     }
     let session = s.second;
     received_by_second(s, digit_decoder::receive_byte(session, number, frame))
@@ -179,10 +130,6 @@ fn receives_readings(s: Sessions, number: u8, readings: [Reading; 8]) -> Session
     if s.selected == 0 {
         let session = s.first;
         return received_by_first(s, decoder::receive_readings(session, number, readings));
-    }
-    if s.selected == 2 {
-        let session = s.weighted;
-        return received_by_weighted(s, decoder::receive_readings(session, number, readings));
     }
     let session = s.second;
     received_by_second(
@@ -202,7 +149,7 @@ fn sends_tail(s: Sessions) -> Sessions {
 }
 
 fn tells_figure(s: Sessions) -> Sessions {
-    let session = if s.selected == 2 { s.weighted } else { s.first };
+    let session = s.first;
     lines::figure(decoder::link_figure(session));
     s
 }
@@ -212,14 +159,14 @@ fn is_good(record: &[u8], selected: u8) -> bool {
     let kind = byte(record, 0);
     match kind {
         b'r' => tagged(record),
-        b's' => byte(record, 1) < 3,
-        b'f' => selected != 1,
+        b's' => byte(record, 1) < 2,
+        b'f' => selected == 0,
         _ => true,
     }
 }
 
 // One record that is good and whole.
-fn one(s: Sessions, card: &[u8], record: &[u8]) -> Sessions {
+fn one(s: Sessions, record: &[u8]) -> Sessions {
     let kind = byte(record, 0);
     let second = byte(record, 1);
     match kind {
@@ -228,7 +175,6 @@ fn one(s: Sessions, card: &[u8], record: &[u8]) -> Sessions {
         b'i' => sends(s, second),
         b't' => sends_tail(s),
         b's' => selects(s, second),
-        b'w' => opens_weighted(s, card, weights(record)),
         _ => tells_figure(s),
     }
 }
@@ -236,16 +182,13 @@ fn one(s: Sessions, card: &[u8], record: &[u8]) -> Sessions {
 // The records in their order, to the end or to one that is none.
 pub(crate) fn all(
     input: &[u8],
-    card: &[u8],
     first: decoder::Session,
     second: digit_decoder::Session,
-    weighted: decoder::Session,
     sender: encoder::Session,
 ) {
     let mut s = Sessions {
         first,
         second,
-        weighted,
         sender,
         selected: 0,
     };
@@ -267,7 +210,7 @@ pub(crate) fn all(
             lines::bad_record();
             return;
         }
-        s = one(s, card, record);
+        s = one(s, record);
         at = end;
     }
 }

@@ -1,3 +1,2 @@
 pub mod Voting
 pub mod WhoVotes
-pub mod Deciding

@@ -1,15 +1,14 @@
--- Votes: the ones of words added up by exclusive or, checks as the digits of a word, and what registers decide.
+-- Votes: the ones of words added up by exclusive or, checks as the digits of a word, and registers that decide as the rule does.
 use Prim.Native.Nat.{ℕ, suc, ◌+◌, ◌-◌, ◌*◌, ◌/◌, ◌%◌, ◌^◌, ◌≤◌, ◌<◌, min, zero-le}
-use mathlib.Core.Bool.{false, cond}
+use mathlib.Core.Bool.{cond}
 use mathlib.Core.Path.{◌≡◌, sym, ap, ap₂, ◌∙◌}
 use mathlib.Core.Logic.{⊎_elim}
-use mathlib.Core.List.{List}
+use mathlib.Core.List.{List, []}
 use native.Mathlib.Nat.{mod-lt, mod-eq_of_lt, div-eq_of_lt, zero-lt-suc, lt_of_lt_of_le, lt_of_le_of_lt, mul-le-mul, mul_comm, mul-zero, zero-mul}
 use native.Mathlib.Omega.{arith}
 use lib.ListN.{length, get_or}
 use lib.Bits.{bit_and, bit_xor, and_le_l, xor_lt}
-use lib.Dec.{ltb, eqb}
-use lib.Ieee.{Float, binary32, add, lt}
+use lib.Dec.{ltb}
 use lib.Count.{ones, count_leading_zeros, leading_length}
 use lib.Pow.{pow_pos, pow_mono}
 use borrow.Author.Tests.{le-ltb}
@@ -19,10 +18,15 @@ use Rattle.bits.proofs.Sums.{sum-mod, sum-cong, sum-add, sum_more, sum-none, sum
 use Rattle.bits.proofs.Cases.{cond-le, le-or-lt}
 use Rattle.bits.proofs.Digits.{bit_le, bit-and, bit-xor, bit-mod, bit_high, bit-of-zero, bit-from_digits, halved-within, halved-whole, ones-sum, ones-made, from_digits-lt, from_digits-same, from_digits-first, from_digits-bits}
 use Rattle.bits.proofs.Words.{placed-fits, placed-more}
+use Rattle.code.specs.Checks.{count, check_mask}
 use Rattle.code.specs.Limits.{most_checks, check_words, check_start}
-use Rattle.weights.specs.Weights.{no_weight}
-use Rattle.weights.specs.Weighing.{sum_of, outweighs}
-use Rattle.vote.specs.Voting.{check_by, ones_by, if_whole, majority_by, error_by, decide_by, votes_by, decide_by_all}
+use Rattle.code.specs.Guarantees.{Guarantees}
+use Rattle.code.specs.declared.Card.{Card}
+use Rattle.majority.specs.Rule as Rule
+use Rattle.majority.specs.Rule.{cleared, check_at, voting, voters, votes, decide}
+use Rattle.majority.specs.Plain.{decide_frame}
+use Rattle.majority.proofs.Plain.{none-erased, decide-plain}
+use Rattle.vote.specs.Voting.{check_by, ones_by, if_whole, majority_by, decide_by, votes_by, decide_by_all}
 
 -- the ones of what two words have in common
 pub ones-of-common : (x y : ℕ) {z : ℕ} → z ≡ bit_and x y → z < 2 ^ 32 → ones z ≡ dot x y
@@ -158,63 +162,50 @@ module _ (n : ℕ) (most : n ≤ most_checks) (votes? : ℕ → ℕ) (small : (q
   pub voting-count : ones (from_digits n votes?) ≡ sum_below n votes?
   voting-count = ones-made n votes? small
 
-  -- the checks that vote and are 1, as the digits of a word
-  module _ (checks : List ℕ) (i : ℕ) (words : List ℕ) (p : ℕ) where
-    abbrev check? : ℕ → ℕ
-    check? q = check_by checks (check_start i q) words p
-
-    pub ones-are : ones_by checks i (from_digits n votes?) words p ≡ from_digits n (λ q. votes? q * check? q)
-    unfolding ones_by from_digits
-    ones-are =
-        sum-cut most_checks n _ most (λ q l. ap (λ x. x * check? q * 2 ^ q) (bit_high _ n q (from_digits-lt n votes? small) l) ∙ ap (λ x. x * 2 ^ q) (zero-mul (check? q)) ∙ zero-mul (2 ^ q))
-        ∙ sum_same n _ _ (λ q l. ap (λ x. x * check? q * 2 ^ q) (bit-from_digits n votes? small q l))
-
-    pub one-lt : (q : ℕ) → q < n → votes? q * check? q < 2
-    one-lt q l = let v : votes? q ≤ 1 = omega (arith, small q l) in let x : check? q ≤ 1 = omega (arith, check-lt checks (check_start i q) words p) in omega (arith, mul-le-mul v x)
-
-    pub ones-count : ones (ones_by checks i (from_digits n votes?) words p) ≡ sum_below n (λ q. votes? q * check? q)
-    ones-count = ap ones ones-are ∙ ones-made n _ one-lt
+  pub ones-count : (checks : List ℕ) (i : ℕ) (words : List ℕ) (p : ℕ)
+      → ones (ones_by checks i (from_digits n votes?) words p) ≡ sum_below n (λ q. votes? q * check_by checks (check_start i q) words p)
+  unfolding ones_by
+  ones-count checks i words p =
+      ones-made most_checks _ (λ q l. picked-lt (from_digits n votes?) (λ q. check_by checks (check_start i q) words p) (λ q. check-lt checks (check_start i q) words p) q)
+      ∙ sum-cut most_checks n _ most
+      (λ q l. ap (λ x. x * check_by checks (check_start i q) words p) (bit_high _ n q (from_digits-lt n votes? small) l) ∙ zero-mul _)
+      ∙ sum_same n _ _ (λ q l. ap (λ x. x * check_by checks (check_start i q) words p) (bit-from_digits n votes? small q l))
 
 -- ---- the decided errors, one stream after the other
 majority-lt : (n votes : ℕ) → majority_by n votes < 2
 unfolding majority_by
 majority-lt n votes = let l = cond-le (ltb n (2 * votes)) 1 0 1 (omega arith) (omega arith) in omega arith
 
-outweighs-le : (w0 : Float) (weights : List Float) (voting one : ℕ) → outweighs w0 weights voting one ≤ 1
-unfolding outweighs
-outweighs-le w0 weights voting one =
-    let more = lt (add binary32 w0 (sum_of weights voting)) (add binary32 (sum_of weights one) (sum_of weights one)) in
-    cond-le (eqb one 0) 0 (cond more 1 0) 1 zero-le (cond-le more 1 0 1 (omega arith) zero-le)
-
-error-le : (weights : List Float) (counts : List ℕ) (i voting one : ℕ) → error_by weights counts i voting one ≤ 1
-unfolding error_by
-error-le weights counts i voting one =
-    cond-le (eqb (length weights) 0) _ _ 1 (omega (arith, majority-lt (ones voting) (ones one))) (outweighs-le (get_or weights 0 no_weight) _ voting one)
-
-module _ (weights : List Float) (voting counts checks syndromes : List ℕ) (p : ℕ) where
+module _ (voting counts checks syndromes : List ℕ) (p : ℕ) where
   -- the decided error of stream i
   abbrev pub error_of : ℕ → ℕ
-  error_of i = error_by weights counts i (get_or voting i 0) (ones_by checks i (get_or voting i 0) syndromes p)
+  error_of i = majority_by (get_or counts i 0) (ones (ones_by checks i (get_or voting i 0) syndromes p))
 
   error-lt : (i : ℕ) → error_of i < 2
-  error-lt i = omega (arith, error-le weights counts i (get_or voting i 0) (ones_by checks i (get_or voting i 0) syndromes p))
+  error-lt i = majority-lt (get_or counts i 0) (ones (ones_by checks i (get_or voting i 0) syndromes p))
 
   pub errors_lt : (i : ℕ) → from_digits i error_of < 2 ^ i
   errors_lt i = from_digits-lt i error_of (λ a l. error-lt a)
 
   -- one stream more
-  pub errors-more : (i : ℕ) {e d : ℕ} → i < 32 → e ≡ from_digits i error_of → d ≡ error_of i → (e + shift_up d i < 2 ^ 32) × (e + shift_up d i ≡ from_digits (i + 1) error_of)
-  errors-more i {e} {d} h so_far is =
-      let le : e < 2 ^ i = rw so_far (errors_lt i) in
-      let ld : d < 2 = rw is (error-lt i) in
-      (placed-fits e d i le ld h, placed-more e d i le ld h error_of so_far is)
+  module _ (i : ℕ) {e d : ℕ} (h : i < 32) (so_far : e ≡ from_digits i error_of) where
+    pub error-placed : d ≡ error_of i → (e + shift_up d i < 2 ^ 32) × (e + shift_up d i ≡ from_digits (i + 1) error_of)
+    error-placed is =
+        let le : e < 2 ^ i = rw so_far (errors_lt i) in
+        let ld : d < 2 = rw is (error-lt i) in
+        (placed-fits e d i le ld h, placed-more e d i le ld h error_of so_far is)
+
+    pub errors-more : {n one : ℕ} → one ≡ ones_by checks i (get_or voting i 0) syndromes p → n ≡ get_or counts i 0 → d ≡ cond (ltb n (2 * ones one)) 1 0
+        → (e + shift_up d i < 2 ^ 32) × (e + shift_up d i ≡ from_digits (i + 1) error_of)
+    unfolding majority_by
+    errors-more eo en ed = error-placed (ed ∙ ap₂ (λ n o. cond (ltb n (2 * ones o)) 1 0) en eo)
 
 -- four streams at most are decided
-pub decide-lt : (weights : List Float) (voting counts checks syndromes : List ℕ) (k p : ℕ) → decide_by weights voting counts checks syndromes k p < 16
+pub decide-lt : (voting counts checks syndromes : List ℕ) (k p : ℕ) → decide_by voting counts checks syndromes k p < 16
 unfolding decide_by
-decide-lt weights voting counts checks syndromes k p =
-    let l = lt_of_lt_of_le (errors_lt weights voting counts checks syndromes (min p 8) (min k 4)) (pow_mono {i = min k 4} {j = 4} (omega arith)) in
-    let h = whole_le checks syndromes (from_digits (min k 4) (error_of weights voting counts checks syndromes (min p 8))) 15 (omega arith) in
+decide-lt voting counts checks syndromes k p =
+    let l = lt_of_lt_of_le (errors_lt voting counts checks syndromes (min p 8) (min k 4)) (pow_mono {i = min k 4} {j = 4} (omega arith)) in
+    let h = whole_le checks syndromes (from_digits (min k 4) (error_of voting counts checks syndromes (min p 8))) 15 (omega arith) in
     omega arith
 
 -- a word that has no 1 has none in common with a mask
@@ -234,22 +225,16 @@ module _ (checks syndromes : List ℕ) (p : ℕ) (none : (j : ℕ) → j < p →
   ones_none i voting =
       sum-none most_checks _ (λ q l. ap (λ x. bit voting q * x * 2 ^ q) (check-none (check_start i q)) ∙ ap (λ x. x * 2 ^ q) (mul-zero (bit voting q)) ∙ zero-mul (2 ^ q))
 
-  error-none : (weights : List Float) (counts : List ℕ) (i voting : ℕ) → error_by weights counts i voting (ones_by checks i voting syndromes (min p 8)) ≡ 0
-  error-none weights counts i voting = ap (error_by weights counts i voting) (ones_none i voting) ∙ omega (arith, none-for-it)
-    where
-      majority-none : (n : ℕ) → majority_by n (ones 0) ≤ 0
-      majority-none n = unfold majority_by ones in (let z : ltb n 0 ≡ false = le-ltb n 0 zero-le in rw z (omega arith))
-
-      none-for-it : error_by weights counts i voting 0 ≤ 0
-      none-for-it = unfold error_by outweighs in cond-le (eqb (length weights) 0) (majority_by (ones voting) (ones 0)) 0 0 (majority-none (ones voting)) zero-le
+  majority-none : (n i voting : ℕ) → majority_by n (ones (ones_by checks i voting syndromes (min p 8))) ≡ 0
+  unfolding majority_by ones
+  majority-none n i voting = ap (λ o. cond (ltb n (2 * ones o)) 1 0) (ones_none i voting) ∙ ap (λ b. cond b 1 0) (le-ltb n 0 zero-le)
 
   -- vote for nothing
-  pub decide-none : (weights : List Float) (voting counts : List ℕ) (k : ℕ) → decide_by weights voting counts checks syndromes k p ≡ 0
+  pub decide-none : (voting counts : List ℕ) (k : ℕ) → decide_by voting counts checks syndromes k p ≡ 0
   unfolding decide_by from_digits
-  decide-none weights voting counts k =
-      let z =
-      sum-none (min k 4) (λ i. error_of weights voting counts checks syndromes (min p 8) i * 2 ^ i) (λ i l. ap (λ d. d * 2 ^ i) (error-none weights counts i _) ∙ omega arith) in
-      let h = whole_le checks syndromes (from_digits (min k 4) (error_of weights voting counts checks syndromes (min p 8))) 0 (omega (arith, z)) in
+  decide-none voting counts k =
+      let z = sum-none (min k 4) (λ i. error_of voting counts checks syndromes (min p 8) i * 2 ^ i) (λ i l. ap (λ d. d * 2 ^ i) (majority-none _ i _) ∙ omega arith) in
+      let h = whole_le checks syndromes (from_digits (min k 4) (error_of voting counts checks syndromes (min p 8))) 0 (omega (arith, z)) in
       omega arith
 
 -- ---- all checks vote
@@ -285,3 +270,69 @@ module _ (counts checks syndromes : List ℕ) (k p : ℕ) where
         (λ i l.
         let n = min (get_or counts i 0) most_checks in
         ap (majority_by n) (sum-cong n (λ q. check-wider (check_start i q))))
+
+-- ---- registers that hold the syndromes of times u to u + m decide as the rule does
+module _ (c : Card) (G : Guarantees c) (frames errors : List ℕ) (u : ℕ) (syndromes : List ℕ)
+    (held : (j a : ℕ) → j < c.p → a ≤ c.m → bit (get_or syndromes j 0) a ≡ cleared c frames errors (u + a) j)
+    (beyond : (j a : ℕ) → j < c.p → c.m < a → bit (get_or syndromes j 0) a ≡ 0) where
+  check-is : (i q : ℕ) → check_by c.checks (check_start i q) syndromes c.p ≡ check_at c frames errors u i q
+  unfolding check_by check_at dot check_mask
+  check-is i q = ap (λ x. x % 2) (sum_same c.p _ _ part)
+    where
+      part : (j : ℕ) → j < c.p → dot (get_or c.checks (check_start i q + j) 0) (get_or syndromes j 0)
+          ≡ sum_below (suc c.m) (λ a. bit (get_or c.checks (check_start i q + j) 0) a * cleared c frames errors (u + a) j)
+      part j hj =
+          let g = get_or c.checks (check_start i q + j) 0 in
+          sum-cut 32 (suc c.m) (λ a. bit g a * bit (get_or syndromes j 0) a) (omega (arith, G.m_most))
+          (λ a l. ap (λ x. bit g a * x) (beyond j a hj (omega arith)) ∙ omega arith)
+          ∙ sum_same (suc c.m) _ _ (λ a l. ap (λ x. bit g a * x) (held j a hj (omega arith)))
+
+  -- the card's numbers are within the tables
+  k-is : min c.k 4 ≡ c.k
+  k-is = omega (arith, G.k_most)
+
+  p-is : min c.p 8 ≡ c.p
+  p-is = omega (arith, G.n_most)
+
+  -- .. if the words have the checks that vote by the rule, and the counts how many they are
+  pub decide-is : (erased words counts : List ℕ) → 8 ≤ length syndromes
+      → ((i : ℕ) → i < c.k → get_or words i 0 ≡ from_digits (count c i) (voting c erased u i))
+      → ((i : ℕ) → i < c.k → get_or counts i 0 ≡ ones (get_or words i 0))
+      → decide_by words counts c.checks syndromes c.k c.p ≡ Rule.decide_frame c frames erased errors u
+  unfolding decide_by Rule.decide_frame
+  decide-is erased words counts long are number =
+      whole c.checks syndromes _ (omega (arith, G.checks_long)) long
+      ∙ ap₂ (λ k p. from_digits k (error_of words counts c.checks syndromes p)) k-is p-is
+      ∙ from_digits-same c.k _ _
+      (λ i l.
+      ap (λ n. majority_by n (ones (ones_by c.checks i (get_or words i 0) syndromes c.p))) (number i l)
+      ∙ ap (λ v. majority_by (ones v) (ones (ones_by c.checks i v syndromes c.p))) (are i l) ∙ majority-is i)
+    where
+      small : (i q : ℕ) → q < count c i → voting c erased u i q < 2
+      small i q l = unfold voting in omega arith
+
+      majority-is : (i : ℕ)
+          → majority_by (ones (from_digits (count c i) (voting c erased u i))) (ones (ones_by c.checks i (from_digits (count c i) (voting c erased u i)) syndromes c.p))
+          ≡ decide c frames erased errors u i
+      majority-is i =
+          unfold majority_by decide voters votes in
+          ap₂ (λ v o. cond (ltb v (2 * o)) 1 0) (voting-count (count c i) (G.j_most i) (voting c erased u i) (small i))
+          (ones-count (count c i) (G.j_most i) (voting c erased u i) (small i) c.checks i syndromes c.p
+          ∙ sum-cong (count c i) (λ q. ap (λ x. voting c erased u i q * x) (check-is i q)))
+
+  pub decide-all-is : decide_by_all c.counts c.checks syndromes c.k c.p ≡ decide_frame c frames errors u
+  unfolding decide_by_all majority_by Rule.decide_frame count
+  decide-all-is =
+      ap₂ (λ k p. from_digits k (λ i. all_of p i (min (count c i) most_checks))) k-is p-is
+      ∙ from_digits-same c.k _ _
+      (λ i l.
+      let n-is : min (count c i) most_checks ≡ count c i = omega (arith, G.j_most i) in
+      ap (all_of c.p i) n-is
+      ∙ ap (λ v. cond (ltb (count c i) (2 * v)) 1 0) (votes-are i)
+      ∙ sym (decide-plain c [] u (none-erased c u) frames errors i))
+    where
+      all_of : ℕ → ℕ → ℕ → ℕ
+      all_of p i n = cond (ltb n (2 * votes_by c.checks i n syndromes p)) 1 0
+
+      votes-are : (i : ℕ) → votes_by c.checks i (count c i) syndromes c.p ≡ sum_below (count c i) (λ q. check_at c frames errors u i q)
+      votes-are i = unfold votes_by in sum-cong (count c i) (λ q. check-is i q)

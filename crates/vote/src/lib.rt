@@ -1,14 +1,14 @@
-// Massey's vote on registers, for both sessions and the burst: by majority, or by weights. What the checks of a stream say is two words: digit q of one, check q votes
+// Massey's majority vote on registers, for both sessions and the burst. What the checks of a stream say is two words: digit q of one, check q votes
 // (`voters`); digit q of the other, check q votes and is 1. In the first circuit and the burst bit a of register j is the syndrome of parity stream j, the
 // errors decided before taken out, a frames after the frame that is decided; in the second it is a sum of digits. It decides as the rule on whole
 // streams (`majority`) does.
 pub mod voters;
 
-ghost use Rattle.std.specs.Prelude.{◌≡◌, cond, [], ◌+◌, ◌*◌, ◌<◌, ◌≤◌, ltb, length, drop};
+ghost use Rattle.std.specs.Prelude.{◌≡◌, cond, ◌+◌, ◌*◌, ◌<◌, ◌≤◌, ltb, length};
 ghost use Rattle.std.specs.Int.Bits.{bit_and};
 ghost use Rattle.code.specs.Limits.{most_checks, check_words};
-ghost use Rattle.vote.specs.Voters.{all_voting, decide_marked};
-ghost use Rattle.vote.specs.Voting.{check_by, all_by, ones_by, stream_ones_by, error_by, decide_by};
+ghost use Rattle.vote.specs.Voters.{all_voting, decideVoters, decide_marked};
+ghost use Rattle.vote.specs.Voting.{check_by, all_by, ones_by, stream_ones_by, decide_by};
 
 use code::{CHECK_STRIDE, CHECK_WORDS, MOST_CHECKS, Sizes};
 
@@ -80,9 +80,9 @@ pub fn more_than_half(count: usize, ones: u32) -> u32
     if count < 2 * bits::index(ones) { 1 } else { 0 }
 }
 
-// The decided errors of a frame where all checks vote and weigh one, as in a burst: what `decide` gives for them, without their words.
+// The decided errors of a frame where all checks vote, as in a burst: what `decide` gives for them, without their words.
 pub fn decide_all(counts: &[u32], checks: &[u32], syndromes: &[u32], k: usize, p: usize) -> u32
-    ensures { result ≡ decide_by [] (all_voting counts.now k) counts.now checks.now syndromes.now k p }
+    ensures { result ≡ decideVoters (all_voting counts.now k) checks.now syndromes.now k p }
 {
     if checks.len() < CHECK_WORDS {
         return 0;
@@ -103,39 +103,17 @@ pub fn decide_all(counts: &[u32], checks: &[u32], syndromes: &[u32], k: usize, p
     errors
 }
 
-// The weights from there on.
-fn weights_from(weights: &[f32], at: usize) -> &[f32]
-    ensures { result.now ≡ drop at weights.now }
-{
-    let start = bits::at_most(at, weights.len());
-    &weights[start..]
-}
-
-// The decided error of stream i, where these of its checks vote, and these of them are 1. Its weights stand after w0 and those of the streams before it;
-// where there are none, the majority decides.
-fn error(weights: &[f32], counts: &[u32], i: usize, voting: u32, ones: u32) -> u32
-    ensures { result ≡ error_by weights.now counts.now i voting ones }
-{
-    if weights.len() == 0 {
-        return more_than_half(bits::index(u32::count_ones(voting)), u32::count_ones(ones));
-    }
-    let first = weights::first_weight(counts, i);
-    weights::outweighs(weights[0], weights_from(weights, 1 + first), voting, ones)
-}
-
-// The decided errors of a frame, bit i for stream i, by the checks that vote: all streams are decided before any is fed back. `weights` are w0 and those of
-// the checks, none where every check weighs one. More streams or checks than the tables have are not looked at, and tables or registers that are not whole
-// decide nothing.
+// The decided errors of a frame, bit i for stream i, by the checks that vote and their number: all streams are decided before any is fed back. More
+// streams or checks than the tables have are not looked at, and tables or registers that are not whole decide nothing.
 pub fn decide<'a>(
-    weights: &[f32],
-    voting: &[u32; 4],
-    counts: &'a [u32],
-    checks: &'a [u32],
+    voting: &'a [u32; 4],
+    counts: &'a [u32; 4],
+    checks: &[u32],
     syndromes: &[u32],
     k: usize,
     p: usize,
 ) -> u32
-    ensures { result ≡ decide_by weights.now voting.now counts.now checks.now syndromes.now k p }
+    ensures { result ≡ decide_by voting.now counts.now checks.now syndromes.now k p }
 {
     if checks.len() < CHECK_WORDS {
         return 0;
@@ -148,16 +126,15 @@ pub fn decide<'a>(
     let mut errors: u32 = 0;
     let mut i = 0;
     while i < streams {
-        let votes = ones(checks, i, voting[i], syndromes, parities);
-        errors = errors + (error(weights, counts, i, voting[i], votes) << i);
+        let votes = u32::count_ones(ones(checks, i, voting[i], syndromes, parities));
+        errors = errors + (more_than_half(bits::index(counts[i]), votes) << i);
         i += 1;
     }
     errors
 }
 
-// The decided errors of a session's frame, by the checks that erased digits leave: `any` is 0 while none is erased, and all checks vote then.
+// The decided errors of a frame where digits may be erased: `any` is 0 while none is, and all checks vote then.
 pub fn decide_marked<'a>(
-    weights: &[f32],
     generators: &'a [u32],
     counts: &'a [u32],
     checks: &'a [u32],
@@ -166,15 +143,18 @@ pub fn decide_marked<'a>(
     any: u32,
     sizes: Sizes,
 ) -> u32
-    ensures { result ≡ decide_marked weights.now generators.now counts.now checks.now syndromes.now erased.now any sizes }
+    ensures { result ≡ decide_marked generators.now counts.now checks.now syndromes.now erased.now any sizes }
 {
-    if weights.len() == 0 {
-        if any == 0 {
-            return decide_all(counts, checks, syndromes, sizes.k, sizes.p);
-        }
+    if any == 0 {
+        return decide_all(counts, checks, syndromes, sizes.k, sizes.p);
     }
-    let voting = voters::voting(generators, counts, checks, erased, any, sizes.k, sizes.p);
+    let voters = voters::voting(generators, counts, checks, erased, any, sizes.k, sizes.p);
     decide(
-        weights, &voting, counts, checks, syndromes, sizes.k, sizes.p,
+        &voters.words,
+        &voters.counts,
+        checks,
+        syndromes,
+        sizes.k,
+        sizes.p,
     )
 }

@@ -3,23 +3,35 @@
 // next.
 ghost use Rattle.std.specs.Prelude.{◌≡◌, ◌<◌, drop};
 ghost use Rattle.code.specs.Limits.{most_checks};
-ghost use Rattle.vote.specs.Voters.{voting_by, stream_voters_by, all_voting, voters_by};
+ghost use Rattle.vote.specs.Voters.{voting_by, stream_voters_by, all_voting, voters_by, votersOf};
 
 use code::{CHECK_STRIDE, MOST_CHECKS};
 
+// The checks that vote, a word for each stream, and how many they are.
+#[derive(Drop)]
+pub struct Voters {
+    pub words: [u32; 4],
+    pub counts: [u32; 4],
+}
+
 // All checks of each stream. More streams or checks than the tables have are not looked at.
-pub fn all_voting(counts: &[u32], k: usize) -> [u32; 4]
-    ensures { result ≡ all_voting counts.now k }
+pub fn all_voting(counts: &[u32], k: usize) -> Voters
+    ensures { result ≡ votersOf (all_voting counts.now k) }
 {
     let streams = bits::at_most(k, 4);
     let mut words = [0u32; 4];
+    let mut held = [0u32; 4];
     let mut i = 0;
     while i < streams {
         let count = bits::at_most(bits::index(bits::word(counts, i)), MOST_CHECKS);
         words[i] = (1 << count) - 1;
+        held[i] = count as u32;
         i += 1;
     }
-    words
+    Voters {
+        words,
+        counts: held,
+    }
 }
 
 // The masks that begin there, and what follows them.
@@ -78,7 +90,7 @@ fn stream_voters<'a>(
     word
 }
 
-// The checks that vote, a word for each stream. `any` is 0 while nothing is erased: the registers of erased digits are not looked at then.
+// The checks that vote. `any` is 0 while nothing is erased: the registers of erased digits are not looked at then.
 pub fn voting<'a>(
     generators: &'a [u32],
     counts: &'a [u32],
@@ -87,18 +99,25 @@ pub fn voting<'a>(
     any: u32,
     k: usize,
     p: usize,
-) -> [u32; 4]
-    ensures { result ≡ voters_by generators.now counts.now checks.now erased.now any k p }
+) -> Voters
+    ensures { result ≡ votersOf (voters_by generators.now counts.now checks.now erased.now any k p) }
 {
-    let every = all_voting(counts, k);
+    let all = all_voting(counts, k);
     if any == 0 {
-        return every;
+        return all;
     }
+    let every = all.words;
     let mut words = [0u32; 4];
+    let mut numbers = [0u32; 4];
     let mut i = 0;
     while i < 4 {
-        words[i] = stream_voters(generators, checks, erased, k, p, i, every[i]);
+        let some = stream_voters(generators, checks, erased, k, p, i, every[i]);
+        words[i] = some;
+        numbers[i] = u32::count_ones(some);
         i += 1;
     }
-    words
+    Voters {
+        words,
+        counts: numbers,
+    }
 }

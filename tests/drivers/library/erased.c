@@ -34,54 +34,25 @@ static void readings_of(long u, int frame, int marks, struct reading readings[8]
     }
 }
 
-/* Frame u of the stream received by a session, which must wait for the first m and hand out a frame from then on. */
-static struct answer receive_frame(struct receiving *session, const struct transmission *t, long u)
-{
-    struct reading readings[8];
-    readings_of(u, t->received[u], t->erased[u], readings);
-    struct answer answer = reference_receive_readings(session, session->card.number, readings);
-    if (answer.kind != (u < session->card.m ? WAITING : FRAME))
-        fail_erased(&session->card, t, "a session doesn't answer as it has to");
-    return answer;
-}
-
 void receive_by_both(const struct fields *fields, const struct transmission *t, uint8_t *frames)
 {
     struct receiving first, second;
     reference_open_receiving(&first, TYPE_I, fields);
     reference_open_receiving(&second, TYPE_II, fields);
     for (long u = 0; u < t->whole; u++) {
-        struct answer one = receive_frame(&first, t, u), other = receive_frame(&second, t, u);
-        if (one.value != other.value)
+        struct reading readings[8];
+        readings_of(u, t->received[u], t->erased[u], readings);
+        struct answer one = reference_receive_readings(&first, fields->number, readings);
+        struct answer other = reference_receive_readings(&second, fields->number, readings);
+        if (one.kind != other.kind || one.value != other.value)
             fail_erased(fields, t, "the two circuits answer otherwise");
+        if (one.kind != (u < fields->m ? WAITING : FRAME))
+            fail_erased(fields, t, "a session doesn't answer as it has to");
         if (one.kind == FRAME)
             frames[u - fields->m] = (uint8_t)one.value;
     }
     reference_close_receiving(&first);
     reference_close_receiving(&second);
-}
-
-void receive_weighted(const struct fields *fields, const struct weight_record *record, const struct transmission *t,
-                      uint8_t *frames)
-{
-    struct receiving session;
-    if (reference_open_weighted(&session, fields, record) != 0)
-        fail_erased(fields, t, "a weighted session doesn't open");
-    for (long u = 0; u < t->whole; u++) {
-        struct answer answer = receive_frame(&session, t, u);
-        if (answer.kind == FRAME)
-            frames[u - fields->m] = (uint8_t)answer.value;
-    }
-    reference_close_receiving(&session);
-}
-
-void bench_transmission(const struct bench_stream *stream, struct fields *fields, struct transmission *t)
-{
-    bench_card(stream->card, fields);
-    t->whole = stream->whole, t->count = t->whole - fields->m;
-    memcpy(t->sent, stream->sent, sizeof stream->sent);
-    memcpy(t->received, stream->received, sizeof stream->received);
-    memcpy(t->erased, stream->erased, sizeof stream->erased);
 }
 
 int correctable(const struct fields *fields, const struct transmission *t)

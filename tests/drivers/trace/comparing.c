@@ -5,9 +5,8 @@
 #include <stdio.h>
 #include <string.h>
 
-struct alike alike[SESSIONS];
+struct alike alike;
 struct whole_streams whole_streams;
-struct weighted_streams weighted_streams;
 
 /* ---- With the reference ---- */
 
@@ -82,8 +81,6 @@ static size_t record_size(uint8_t kind)
         return 3;
     case 'r':
         return 42;
-    case 'w':
-        return OPENING_BYTES;
     case 's':
     case 'i':
         return 2;
@@ -132,71 +129,45 @@ static int is_frame(const struct place *place, const struct text *written)
     return place->line_length > 6 && memcmp(written->bytes + place->line, "frame ", 6) == 0;
 }
 
-/* The stream counts if it was received whole by both, up to its last frame. */
-static void count_alike(struct alike *with, int session, long same_calls)
+/* The stream counts if it was received whole, up to its last frame. */
+static void count_alike(long same_calls)
 {
-    if (!stream.by[PLAIN] || !stream.by[session] || same_calls < stream.calls)
+    if (!stream.whole || manner != BOTH || same_calls < stream.calls)
         return;
-    with->streams++;
-    with->stream_frames += stream.count;
-    if (stream.beyond[PLAIN]) {
-        with->streams_beyond++;
-        with->stream_frames_beyond += stream.count;
+    alike.streams++;
+    alike.stream_frames += stream.count;
+    if (stream.beyond) {
+        alike.streams_beyond++;
+        alike.stream_frames_beyond += stream.count;
     }
 }
 
-static void count_forms(struct alike *with, const struct place *one, const struct place *other)
+static void count_forms(const struct place *one, const struct place *other)
 {
     int same_kind = trace[one->record] == trace[other->record];
-    with->byte_and_levels += !same_kind;
-    with->unlike_readings += same_kind && !same_call(one, other);
-}
-
-/* The record after this one, if it asks for the figure. */
-static int figure_after(const struct place *place, const struct text *written, struct place *figure)
-{
-    *figure = *place;
-    return next_record(figure, written) && trace[figure->record] == 'f';
-}
-
-/* The lines of a call to both, and those of the figures that both are asked for after it. */
-static int same_lines(const struct place *one, const struct place *other, const struct text *written,
-                      struct alike *with)
-{
-    struct place figure, other_figure;
-    int figures = figure_after(one, written, &figure) && figure_after(other, written, &other_figure);
-    with->figures += figures;
-    return same_line(one, other, written) && (!figures || same_line(&figure, &other_figure, written));
-}
-
-/* Session 0 with another one. */
-static int as_plain(int session, const struct text *written)
-{
-    struct place plain = at_card(written), other = plain;
-    struct alike *with = &alike[session];
-    long same_calls = 0, same_frames = stream.by[PLAIN] && stream.by[session] ? stream.calls : 0;
-    while (next_call(&plain, PLAIN, written) && next_call(&other, session, written) &&
-           !(session == WEIGHTED && other.record >= plain_until) &&
-           (same_calls < same_frames || same_call(&plain, &other))) {
-        same_calls++;
-        if (!same_lines(&plain, &other, written, with)) {
-            printf("FAILED: the receivers differ, from their call %ld on\n", same_calls);
-            print_line("session 0", written, plain.line);
-            printf("  and session %d\n", session);
-            print_line("the other", written, other.line);
-            return 0;
-        }
-        with->frames += is_frame(&plain, written);
-        count_forms(with, &plain, &other);
-    }
-    with->calls += same_calls;
-    count_alike(with, session, same_calls);
-    return 1;
+    alike.byte_and_levels += !same_kind;
+    alike.unlike_readings += same_kind && !same_call(one, other);
 }
 
 int as_each_other(const struct text *written)
 {
-    return as_plain(SECOND_CIRCUIT, written) && as_plain(WEIGHTED, written);
+    struct place plain = at_card(written), second = plain;
+    long same_calls = 0, same_frames = stream.whole && manner == BOTH ? stream.calls : 0;
+    while (next_call(&plain, 0, written) && next_call(&second, 1, written) &&
+           (same_calls < same_frames || same_call(&plain, &second))) {
+        same_calls++;
+        if (!same_line(&plain, &second, written)) {
+            printf("FAILED: the receivers differ, from their call %ld on\n", same_calls);
+            print_line("session 0", written, plain.line);
+            print_line("session 1", written, second.line);
+            return 0;
+        }
+        alike.frames += is_frame(&plain, written);
+        count_forms(&plain, &second);
+    }
+    alike.calls += same_calls;
+    count_alike(same_calls);
+    return 1;
 }
 
 /* ---- What comes out with what was sent ---- */
@@ -208,16 +179,6 @@ static int is_information(const struct place *place, const struct text *written,
     return place->line_length == (size_t)size && memcmp(written->bytes + place->line, line, (size_t)size) == 0;
 }
 
-/* Moves on to the next frame of the stream, after all that the session received before it. */
-static int next_of_stream(struct place *place, int session, const struct text *written)
-{
-    int there;
-    do
-        there = next_call(place, session, written);
-    while (there && place->record < stream.start);
-    return there;
-}
-
 /* The frames that the session hands out in the stream's calls must be its information frames, in number too. */
 static int as_sent(int session, const struct text *written)
 {
@@ -225,7 +186,7 @@ static int as_sent(int session, const struct text *written)
     long frames = 0;
     int right = 1;
     for (long call = 0; call < stream.calls && right; call++) {
-        right = next_of_stream(&place, session, written);
+        right = next_call(&place, session, written);
         if (right && is_frame(&place, written)) {
             right = frames < stream.count && is_information(&place, written, frames);
             frames++;
@@ -239,84 +200,35 @@ static int as_sent(int session, const struct text *written)
     return 0;
 }
 
-static void count_decision(int i, long u, int beyond)
+static void count_decision(int i, long u)
 {
     int votes = reference_votes(&stream.card, stream.erased, i, u);
     int own = 1 << (i - 1);
     whole_streams.some_silent += votes < stream.card.J[i];
     whole_streams.all_silent += votes == 0;
-    whole_streams.restored += !beyond && (stream.erased[u] & own) && (stream.sent[u] & own);
+    whole_streams.restored += !stream.beyond && (stream.erased[u] & own) && (stream.sent[u] & own);
 }
 
-/* By session 0 or 1, which have one condition. */
 static void count_whole(void)
 {
-    int erased = 0, beyond = stream.beyond[PLAIN] || stream.beyond[SECOND_CIRCUIT];
+    int erased = 0;
     for (long u = 0; u < stream.count + stream.card.m; u++)
         erased = erased || stream.erased[u];
-    whole_streams.as_sent += !beyond;
-    whole_streams.erased_as_sent += erased && !beyond;
-    whole_streams.erased_beyond += erased && beyond;
-    whole_streams.erased_by_level += beyond ? 0 : stream.erased_by_level;
+    whole_streams.as_sent += !stream.beyond;
+    whole_streams.erased_as_sent += erased && !stream.beyond;
+    whole_streams.erased_beyond += erased && stream.beyond;
+    whole_streams.erased_by_level += stream.beyond ? 0 : stream.erased_by_level;
     for (long u = 0; u < stream.count && erased; u++)
         for (int i = 1; i <= stream.card.k; i++)
-            count_decision(i, u, beyond);
-}
-
-static int has_wrong_digit(void)
-{
-    for (long u = 0; u < stream.count + stream.card.m; u++)
-        if ((stream.sent[u] ^ stream.received[u]) & ~stream.erased[u] || stream.sent[u] & stream.erased[u])
-            return 1;
-    return 0;
-}
-
-/* Gives whether a check did not vote. */
-static int count_weighted_decision(int i, long u)
-{
-    struct hit hit = reference_hit(&stream.card, &stream.weights, stream.sent, stream.received, stream.erased, i, u);
-    long w0 = stream.weights.w0, left = hit.all - w0 - 2 * hit.weight;
-    weighted_streams.edge_right += !hit.own_wrong && hit.weight > 0 && 2 * hit.weight == hit.all + w0;
-    weighted_streams.edge_wrong += hit.own_wrong && left <= 2;
-    return reference_votes(&stream.card, stream.erased, i, u) < stream.card.J[i];
-}
-
-/* By the weighted session. */
-static void count_weighted(void)
-{
-    int silent = 0;
-    weighted_streams.all++;
-    weighted_streams.anew += stream.anew;
-    weighted_streams.as_sent += !stream.beyond[WEIGHTED];
-    if (stream.beyond[WEIGHTED] || !has_wrong_digit())
-        return;
-    for (long u = 0; u < stream.count; u++)
-        for (int i = 1; i <= stream.card.k; i++)
-            silent = count_weighted_decision(i, u) || silent;
-    weighted_streams.wrong++;
-    weighted_streams.with_w0 += stream.weights.w0 > 0;
-    weighted_streams.silent += silent;
-    weighted_streams.beyond_plain +=
-        !reference_correctable(&stream.card, stream.sent, stream.received, stream.erased, stream.count);
-}
-
-/* What R-6's condition allows, R-8's does with the plain weights: a wrong digit that is touched hits one check. */
-static int conditions_agree(void)
-{
-    if (!stream.by[PLAIN] || !stream.by[WEIGHTED] || stream.beyond[PLAIN] || !stream.beyond[WEIGHTED])
-        return 1;
-    printf("FAILED: the conditions differ, of sessions 0 and 2 with the same weights\n");
-    return 0;
+            count_decision(i, u);
 }
 
 int as_it_must(const struct text *written)
 {
-    int right = conditions_agree();
-    if (stream.by[PLAIN] || stream.by[SECOND_CIRCUIT])
-        count_whole();
-    if (stream.by[WEIGHTED])
-        count_weighted();
-    for (int session = 0; session < SESSIONS; session++)
-        right = right && (!stream.by[session] || stream.beyond[session] || as_sent(session, written));
-    return right;
+    if (!stream.whole)
+        return 1;
+    count_whole();
+    if (stream.beyond)
+        return 1;
+    return as_sent(stream.session, written) && (manner != BOTH || as_sent(1 - stream.session, written));
 }

@@ -1,25 +1,19 @@
 #include "making.h"
 
 #include "inputs/erasing.h"
-#include "openings.h"
 #include "records.h"
 
 #include <string.h>
 
 uint8_t trace[MOST_BYTES];
 size_t length;
-size_t plain_until;
+enum manner manner;
+struct stream stream;
 struct stating stating;
 struct many_checks many_checks;
 
-/* Where the trace that is made has come to. */
-static int accepted; /* whether its card is */
-static enum manner manner;
-static int together[SESSIONS]; /* the sessions that each frame goes to, if it goes to several */
-static int selected;           /* the receiving session, by the last `s` */
-static long calls;             /* to receive a frame; where several sessions get it, one to each */
-static struct weights weights; /* of the weighted session, by the last `w` that isn't refused */
-static int weighted_called;    /* whether that session has been called at all */
+static int selected; /* the receiving session, by the last `s` */
+static long calls;   /* to receive a frame; where both sessions get it, one to each */
 
 static void add_byte(int byte)
 {
@@ -36,32 +30,28 @@ static void select_session(int session)
     selected = session;
 }
 
-/* The call, as often as not with the figure after it; the second circuit has none. */
+/* The call, most often with the figure after it; session 1 has none. */
 static void add_record(struct random *r, const struct record *record)
 {
     for (size_t b = 0; b < record->size; b++)
         add_byte(record->bytes[b]);
-    if (selected != SECOND_CIRCUIT && one_in(r, 2))
+    if (selected == 0 && !one_in(r, 5))
         add_byte('f');
-    weighted_called = weighted_called || selected == WEIGHTED;
 }
 
-/* The call by the sessions that the trace's manner has for it; where several have it, all but one by the other record. */
+/* The call by the sessions that the trace's manner has for it; where both have it, one of them by the other record. */
 static void add_calls(struct random *r, const struct record *record, const struct record *other)
 {
-    int first = below(r, SESSIONS), made = 0;
+    int first = one_in(r, 4);
     calls++;
-    if (manner == SWITCHING && one_in(r, 3))
-        select_session(below(r, SESSIONS));
-    if (manner != TOGETHER)
-        add_record(r, record);
-    for (int turn = 0; turn < SESSIONS && manner == TOGETHER; turn++) {
-        int session = (first + turn) % SESSIONS;
-        if (together[session]) {
-            select_session(session);
-            add_record(r, made++ == 0 ? record : other);
-        }
+    if (manner == BOTH) {
+        select_session(first);
+        add_record(r, other);
+        select_session(1 - first);
+    } else if (manner == SWITCHING && one_in(r, 3)) {
+        select_session(below(r, 2));
     }
+    add_record(r, record);
 }
 
 static void add_call(struct random *r, const struct record *record)
@@ -69,34 +59,10 @@ static void add_call(struct random *r, const struct record *record)
     add_calls(r, record, record);
 }
 
-/* ---- Openings of the weighted session ---- */
-
-static void add_opening(struct opening opening)
-{
-    if (!opening.refused) {
-        weights = opening.weights;
-        if ((weighted_called || !opening.plain) && length < plain_until)
-            plain_until = length;
-    }
-    for (size_t b = 0; b < sizeof opening.bytes; b++)
-        add_byte(opening.bytes[b]);
-}
-
-/* Now and then one before a call, whichever session is selected. The records of a refused card are not answered, and it
- * may have no number of checks that weights could be made for. */
-static void add_opening_between(struct random *r, const struct fields *card, int refused)
-{
-    if (accepted && one_in(r, 20))
-        add_opening(refused ? bad_opening(r, card) : any_opening(r, card));
-}
-
-/* ---- Frames ---- */
-
 /* One frame to receive, most often under the card's number. Now and then its byte or one of its tags is any. */
 static void add_received(struct random *r, const struct fields *card, int frame, int erased)
 {
     int number = one_in(r, 12) ? below(r, 256) : card->number;
-    add_opening_between(r, card, together[WEIGHTED] && !one_in(r, 4));
     struct record record = record_of(r, card, number, frame, erased, one_in(r, 6) ? ANY : MOSTLY);
     int readings = record.bytes[0] == 'r';
     if (!readings && one_in(r, 15))
@@ -131,15 +97,13 @@ static int erased_by_level(const struct record *record, int erased)
     return digits;
 }
 
-/* A frame that is taken as it is, so that a stream stays whole; where several sessions have it, often one of them in another
+/* A frame that is taken as it is, so that a stream stays whole; where both sessions have it, often one of them in another
  * form: as a byte and as levels outside the band, or with the same digits erased by marks and by levels. Now and then a
- * refused call before it, of which some have other digits erased; and an opening, which is refused if it would end the
- * stream. */
+ * refused call before it, of which some have other digits erased. */
 static void add_taken(struct random *r, const struct fields *card, int frame, int erased)
 {
     struct record record = record_of(r, card, card->number, frame, erased, SURELY);
     struct record other = one_in(r, 2) ? record : record_of(r, card, card->number, frame, erased, SURELY);
-    add_opening_between(r, card, stream.by[WEIGHTED]);
     if (one_in(r, 8))
         add_refused(r, card, frame, one_in(r, 2) ? erased : below(r, 1 << card->n));
     add_calls(r, &record, &other);
@@ -148,68 +112,88 @@ static void add_taken(struct random *r, const struct fields *card, int frame, in
 
 /* ---- Streams and mixtures ---- */
 
+/* The information is all zeros now and then, which comes out as sent also where no check votes. */
+static void send_stream(struct random *r, const struct fields *card)
+{
+    struct sending sender;
+    int values = one_in(r, 8) ? 1 : 1 << card->k;
+    reference_open_sending(&sender, card);
+    for (int u = 0; u < stream.count + card->m; u++) {
+        int information = below(r, values);
+        struct answer frame =
+            u < stream.count ? reference_send(&sender, (uint8_t)information) : reference_send_tail(&sender);
+        stream.sent[u] = (uint8_t)frame.value;
+    }
+    reference_close_sending(&sender);
+}
+
+/* Any digits wrong and erased. */
+static void damage_stream(struct random *r, const struct fields *card)
+{
+    static const int rates[] = {0, 10, 100, 200, 300, 400, 500, 1000};
+    struct erasing erasing = random_erasing(r);
+    int rate = erasing.way != NONE_ERASED && one_in(r, 2) ? 0 : rates[below(r, 8)];
+    for (int u = 0; u < stream.count + card->m; u++) {
+        stream.received[u] = (uint8_t)(stream.sent[u] ^ random_digits(r, card->n, rate));
+        stream.erased[u] = (uint8_t)erased_at(r, &erasing, u, card->n);
+    }
+}
+
+static int is_correctable(const struct fields *card)
+{
+    return reference_correctable(card, stream.sent, stream.received, stream.erased, stream.count);
+}
+
+/* As many digits wrong and erased as the stream stands: random ones until a further one is too many; or also that one.
+ * (Erased zeros may never be too many.) */
+static void damage_at_limit(struct random *r, const struct fields *card)
+{
+    int frames = (int)stream.count + card->m, wrong_in_ten = below(r, 10), beyond = one_in(r, 2);
+    memcpy(stream.received, stream.sent, sizeof stream.sent);
+    memset(stream.erased, 0, sizeof stream.erased);
+    for (int digits = 0; digits < 60 && frames > 0; digits++) {
+        uint8_t *first = below(r, 10) < wrong_in_ten ? stream.received : stream.erased;
+        uint8_t *frame = first + below(r, frames), before = *frame;
+        *frame = (uint8_t)(*frame ^ 1 << below(r, card->n));
+        if (!is_correctable(card)) {
+            *frame = beyond ? *frame : before;
+            return;
+        }
+    }
+}
+
 /* The stream's records: each frame sent, and received. */
-static void add_stream(struct random *r, const struct fields *card, int whole)
+static void add_stream(struct random *r, const struct fields *card)
 {
     for (int u = 0; u < stream.count + card->m; u++) {
         if (u >= stream.count)
             add_byte('t');
         else
             add_byte('i'), add_byte(stream.sent[u] % (1 << card->k));
-        if (whole)
+        if (stream.whole)
             add_taken(r, card, stream.received[u], stream.erased[u]);
         else
             add_received(r, card, stream.received[u], stream.erased[u]);
     }
 }
 
-/* Frames and openings that the weighted session must no longer know of once it is opened anew. */
-static void add_before_opening(struct random *r, const struct fields *card)
-{
-    for (int frames = below(r, 40); frames > 0; frames--) {
-        if (one_in(r, 8))
-            add_opening(any_opening(r, card));
-        add_taken(r, card, below(r, 1 << card->n), one_in(r, 4) ? below(r, 1 << card->n) : 0);
-    }
-}
-
-/* Makes the stream and the opening before it, if there is one. Where the plain session has the stream too, the weights are
- * the plain ones; else w0 is often such that the stream just comes out. */
-static void make_weighted_stream(struct random *r, const struct fields *card)
-{
-    static const enum weighing unequal[] = {SMALL, FEW_VALUES, WITH_ZEROS, ANY_WEIGHTS};
-    int plain = stream.by[PLAIN], opened = weighted_called || !one_in(r, plain ? 3 : 12);
-    struct opening opening = plain          ? opening_of(r, card, EQUAL_ONES)
-                             : one_in(r, 4) ? good_opening(r, card)
-                                            : opening_of(r, card, unequal[below(r, 4)]);
-    stream.weights = opened ? opening.weights : weights;
-    make_stream(r);
-    if (opened && !plain && !one_in(r, 4) && put_w0_at_edge(r))
-        set_w0(&opening, stream.weights.w0);
-    if (opened)
-        add_opening(opening);
-}
-
 /* A stream as the first thing that the receivers get, so that it is one from time 0 on. A refused card has no streams:
  * its records are not answered. */
-static void begin_with_stream(struct random *r, const struct fields *card)
+static void begin_with_stream(struct random *r, const struct fields *card, int accepted)
 {
-    int whole = manner == TOGETHER || (manner == STAYING && (selected == WEIGHTED || one_in(r, 2)));
-    whole = whole && accepted;
-    if (whole && selected == WEIGHTED && one_in(r, 3))
-        add_before_opening(r, card);
     stream.card = *card;
-    for (int session = 0; session < SESSIONS; session++)
-        stream.by[session] = whole && (manner == TOGETHER ? together[session] : session == selected);
-    if (stream.by[WEIGHTED])
-        make_weighted_stream(r, card);
-    else
-        make_stream(r);
+    stream.count = below(r, MOST_STREAM - MOST_MEMORY);
+    stream.whole = manner == BOTH || (manner == STAYING && one_in(r, 2));
+    stream.session = selected;
     stream.erased_by_level = 0;
-    stream.start = length;
-    stream.anew = weighted_called;
-    calls = 0;
-    add_stream(r, card, whole);
+    send_stream(r, card);
+    if (accepted && stream.whole && one_in(r, 3))
+        damage_at_limit(r, card);
+    else
+        damage_stream(r, card);
+    add_stream(r, card);
+    stream.whole = stream.whole && accepted;
+    stream.beyond = stream.whole && !is_correctable(card);
     stream.calls = calls;
     stream.end = length;
 }
@@ -315,50 +299,38 @@ static int add_card(struct random *r, struct fields *card)
         add_byte(bytes[b]);
     if (stated == size)
         count_stated(bytes, size);
-    if (stated != size || reference_read_card(bytes, size, &read).refusal != 0)
-        return 0;
-    *card = read;
-    many_checks.most += has_most_checks(card);
-    return 1;
+    int accepted = stated == size && reference_read_card(bytes, size, &read).refusal == 0;
+    if (accepted) {
+        *card = read;
+        many_checks.most += has_most_checks(card);
+    }
+    return accepted;
 }
 
 static void choose_sessions(struct random *r)
 {
-    static const enum manner manners[] = {TOGETHER, TOGETHER, TOGETHER, TOGETHER, SWITCHING, SWITCHING, STAYING, STAYING};
-    static const int staying[] = {PLAIN, PLAIN, SECOND_CIRCUIT, WEIGHTED, WEIGHTED, WEIGHTED, WEIGHTED, WEIGHTED};
-    manner = manners[below(r, 8)];
-    memset(together, 0, sizeof together);
-    if (manner == TOGETHER) {
-        together[PLAIN] = 1;
-        together[SECOND_CIRCUIT] = !one_in(r, 8);
-        together[WEIGHTED] = !together[SECOND_CIRCUIT] || one_in(r, 3);
-    }
-    if (manner == STAYING && !one_in(r, 8))
-        select_session(staying[below(r, 8)]);
+    static const enum manner manners[] = {BOTH, BOTH, SWITCHING, STAYING};
+    manner = manners[below(r, 4)];
+    if (manner == STAYING && !one_in(r, 3))
+        select_session(below(r, 2));
 }
 
-/* A record that ends the trace: the selection of a session that is not there, the figure of one that has none, or one
- * that is cut short. What follows must not be answered. */
-static void add_bad_record(struct random *r, const struct fields *card)
+/* A selection that ends the trace: of a session that is not there, of the one whose figure is then asked for, or cut
+ * short. What follows must not be answered. */
+static void add_bad_selection(struct random *r)
 {
-    static const int others[] = {3, 4, '0', '1', '2', 255};
-    struct opening opening;
-    switch (below(r, accepted ? 4 : 3)) {
+    static const int others[] = {2, 3, '0', '1', 255};
+    switch (below(r, 3)) {
     case 0:
         add_byte('s');
-        add_byte(one_in(r, 2) ? others[below(r, 6)] : between(r, SESSIONS, 255));
+        add_byte(one_in(r, 2) ? others[below(r, 5)] : between(r, 2, 255));
         break;
     case 1:
-        select_session(SECOND_CIRCUIT);
+        select_session(1);
         add_byte('f');
         break;
-    case 2:
-        add_byte('s');
-        return;
     default:
-        opening = good_opening(r, card);
-        for (int bytes = between(r, 1, OPENING_BYTES - 1), b = 0; b < bytes; b++)
-            add_byte(opening.bytes[b]);
+        add_byte('s');
         return;
     }
     for (int records = below(r, 3); records > 0; records--)
@@ -366,11 +338,11 @@ static void add_bad_record(struct random *r, const struct fields *card)
 }
 
 /* Some traces end in a record that is none, and some in the midst of one. */
-static void spoil_end(struct random *r, const struct fields *card)
+static void spoil_end(struct random *r)
 {
     size_t cut = length - 2 < 45 ? length - 2 : 45;
     if (one_in(r, 6))
-        add_bad_record(r, card);
+        add_bad_selection(r);
     else if (one_in(r, 6))
         add_byte(below(r, 256));
     else if (one_in(r, 6) && cut > 0)
@@ -389,35 +361,25 @@ static void fill_up(struct random *r, const struct fields *card)
     length = wanted;
 }
 
-/* Nothing is there as yet. */
-static void begin_trace(void)
-{
-    length = 0;
-    plain_until = MOST_BYTES;
-    selected = PLAIN;
-    calls = 0;
-    weights = reference_plain_weights();
-    weighted_called = 0;
-    memset(stream.by, 0, sizeof stream.by);
-}
-
 void make_trace(struct random *r)
 {
     struct fields card;
-    begin_trace();
-    accepted = add_card(r, &card);
+    length = 0;
+    selected = 0;
+    calls = 0;
+    stream.whole = 0;
+    int accepted = add_card(r, &card);
     if (card.m > MOST_MEMORY)
         card.m = MOST_MEMORY; /* a spoiled card, which is refused whatever its records are */
     choose_sessions(r);
     if (!one_in(r, 3))
-        begin_with_stream(r, &card);
+        begin_with_stream(r, &card, accepted);
     if (one_in(r, 2))
-        add_mixture(r, &card, below(r, 140));
+        add_mixture(r, &card, below(r, 200));
     if (one_in(r, 2))
         add_sending_past_the_tail(r, &card);
     if (one_in(r, 60))
         fill_up(r, &card);
-    spoil_end(r, &card);
-    if (stream.end > length || length > MOST_TRACE_BYTES)
-        memset(stream.by, 0, sizeof stream.by); /* it is cut short, or not answered */
+    spoil_end(r);
+    stream.whole = stream.whole && stream.end <= length && length <= MOST_TRACE_BYTES;
 }

@@ -1,6 +1,5 @@
 #include "trace.h"
 
-#include "inputs/floats.h"
 #include "reference/reference.h"
 
 #include <float.h>
@@ -46,12 +45,6 @@ static void add_answer(struct text *text, struct answer answer, struct answer_co
     }
 }
 
-/* Four bytes, the lowest first. */
-static uint32_t word_of(const uint8_t *bytes)
-{
-    return bytes[0] + 256u * bytes[1] + 65536u * bytes[2] + 16777216u * bytes[3];
-}
-
 /* Eight readings of five bytes: a tag, 0 for a level and 1 for erased, and the level's four bytes, the lowest first.
  * Gives 0 for another tag, which makes the record one of another kind, also where the reading is not looked at. */
 static int readings_of(const uint8_t *bytes, struct reading readings[8])
@@ -60,8 +53,9 @@ static int readings_of(const uint8_t *bytes, struct reading readings[8])
         const uint8_t *reading = bytes + 5 * s;
         if (reading[0] > 1)
             return 0;
+        uint32_t pattern = reading[1] + 256u * reading[2] + 65536u * reading[3] + 16777216u * reading[4];
         readings[s].erased = reading[0];
-        readings[s].level = float_of(word_of(reading + 1));
+        memcpy(&readings[s].level, &pattern, sizeof pattern);
     }
     return 1;
 }
@@ -90,7 +84,7 @@ static void count_levels(const struct reading readings[8], int n, struct trace_c
 
 /* The sessions that a trace drives: session X is receiving[X]. */
 struct sessions {
-    struct receiving receiving[SESSIONS];
+    struct receiving receiving[2];
     int selected;
     struct sending sending;
 };
@@ -98,19 +92,19 @@ struct sessions {
 static void open_sessions(struct sessions *sessions, const struct fields *card,
                           void (*spoil)(int session, struct fields *card))
 {
-    for (int session = 0; session < SESSIONS; session++) {
+    for (int session = 0; session < 2; session++) {
         struct fields own = *card;
         spoil(session, &own);
-        reference_open_receiving(&sessions->receiving[session], session == SECOND_CIRCUIT ? TYPE_II : TYPE_I, &own);
+        reference_open_receiving(&sessions->receiving[session], session == 0 ? TYPE_I : TYPE_II, &own);
     }
     reference_open_sending(&sessions->sending, card);
-    sessions->selected = PLAIN;
+    sessions->selected = 0;
 }
 
 static void close_sessions(struct sessions *sessions)
 {
-    for (int session = 0; session < SESSIONS; session++)
-        reference_close_receiving(&sessions->receiving[session]);
+    reference_close_receiving(&sessions->receiving[0]);
+    reference_close_receiving(&sessions->receiving[1]);
     reference_close_sending(&sessions->sending);
 }
 
@@ -122,7 +116,7 @@ static size_t select_session(const uint8_t *record, size_t left, struct sessions
         counts->cut_selections++;
         return 0;
     }
-    if (record[1] >= SESSIONS) {
+    if (record[1] > 1) {
         counts->other_selections++;
         return 0;
     }
@@ -146,41 +140,15 @@ static size_t receive_readings(const uint8_t *record, size_t left, struct receiv
     return 42;
 }
 
-/* The record `w`: the weighted session is opened anew with its card. A refused one leaves it as it stood. */
-static size_t open_weighted(const uint8_t *record, size_t left, struct receiving *session, struct text *text,
-                            struct trace_counts *counts)
-{
-    struct weight_record weights;
-    struct receiving opened;
-    if (left < OPENING_BYTES) {
-        counts->cut_openings++;
-        return 0;
-    }
-    weights.w0 = word_of(record + 1);
-    for (int place = 0; place < MOST_CHECK_WEIGHTS; place++)
-        weights.check[place] = word_of(record + 5 + 4 * place);
-    int refusal = reference_open_weighted(&opened, &session->card, &weights);
-    if (refusal) {
-        counts->openings_refused++;
-        add_line(text, "refused %d", refusal);
-    } else {
-        counts->opened++;
-        add_line(text, "open");
-        reference_close_receiving(session);
-        *session = opened;
-    }
-    return OPENING_BYTES;
-}
-
 /* The record `f`. The second circuit gives no link figure. */
 static size_t tell_figure(const struct sessions *sessions, struct text *text, struct trace_counts *counts)
 {
-    if (sessions->selected == SECOND_CIRCUIT) {
+    if (sessions->selected == 1) {
         counts->second_figures++;
         return 0;
     }
-    counts->figures[sessions->selected]++;
-    add_line(text, "figure %ld", reference_link_figure(&sessions->receiving[sessions->selected]));
+    counts->figures++;
+    add_line(text, "figure %ld", reference_link_figure(&sessions->receiving[0]));
     return 1;
 }
 
@@ -193,8 +161,6 @@ static size_t one_record(const uint8_t *record, size_t left, struct sessions *se
     switch (record[0]) {
     case 's':
         return select_session(record, left, sessions, text, counts);
-    case 'w':
-        return open_weighted(record, left, &sessions->receiving[WEIGHTED], text, counts);
     case 'b':
         if (left < 3)
             return 0;

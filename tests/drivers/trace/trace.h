@@ -1,5 +1,5 @@
-/* The output of the program `trace` as the reference has it: a card, then records that drive three receiving sessions,
- * one by each circuit and one with weighted votes, and a sending one. */
+/* The output of the program `trace` as the reference has it: a card, then records that drive two receiving sessions,
+ * one by each circuit, and a sending one. */
 #ifndef TRACE_H
 #define TRACE_H
 
@@ -11,12 +11,8 @@ struct fields;
 enum {
     MOST_TRACE_BYTES = 65536,
     MOST_STATED_LENGTH = 2048, /* of the card, as for the listing */
-    MOST_LINE = 32,            /* bytes of a line, and more */
-    OPENING_BYTES = 165        /* of the record `w`: w0, and the weights of as many checks as there may be */
+    MOST_LINE = 32             /* bytes of a line, and more */
 };
-
-/* The receiving sessions, by the number that `s` has for each. */
-enum { PLAIN, SECOND_CIRCUIT, WEIGHTED, SESSIONS };
 
 /* Text that grows at its end. */
 struct text {
@@ -45,13 +41,12 @@ enum level {
 
 /* What the records came to. */
 struct trace_counts {
-    long records, figures[SESSIONS], selections;
-    struct answer_counts received[SESSIONS], sent;
-    long opened, openings_refused; /* by `w` */
+    long records, figures, selections;
+    struct answer_counts received[2], sent;
     long levels[2][LEVELS]; /* of frames taken, the n readings: those with a sign at [1] */
     long cards_refused[32]; /* by number */
-    /* Bad records: `s` alone, `s` with an X above 2, `f` while session 1 is selected, `w` cut short. */
-    long cut_selections, other_selections, second_figures, cut_openings;
+    /* Bad records: `s` alone, `s` with an X above 1, `f` while session 1 is selected. */
+    long cut_selections, other_selections, second_figures;
 };
 
 /* Adds what the program must write for this input to the text, and to the counts. */

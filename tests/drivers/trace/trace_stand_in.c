@@ -2,11 +2,9 @@
  *
  *     trace_stand_in           all of them right
  *     trace_stand_in N         one mistake, in the N-th byte that it writes
- *     trace_stand_in second    the second circuit's session takes a check twice, in another's place
- *     trace_stand_in weighted  the weighted session does
- *     trace_stand_in all       all receiving sessions do
- *
- * Mistakes of the weighted votes are made by changing the sources that it is compiled from (`run`). */
+ *     trace_stand_in second    the second circuit's session leaves a check out
+ *     trace_stand_in both      both receiving sessions leave the same check out
+ */
 #include "reference/reference.h"
 #include "trace.h"
 
@@ -14,13 +12,12 @@
 #include <stdlib.h>
 #include <string.h>
 
-static int wrong[SESSIONS]; /* of each receiving session, whether it errs */
+static int wrong[2]; /* of each receiving session, whether it errs */
 
-/* The number of checks stays, on which it depends where a check's weight stands. */
-static void repeat_a_check(int session, struct fields *card)
+static void leave_a_check_out(int session, struct fields *card)
 {
-    if (wrong[session])
-        memcpy(card->check[1][card->J[1]], card->check[1][1], sizeof card->check[1][1]);
+    if (wrong[session] && card->J[1] > 1)
+        card->J[1]--;
 }
 
 int main(int argc, char **argv)
@@ -29,10 +26,9 @@ int main(int argc, char **argv)
     struct text text = {NULL, 0, 0};
     struct trace_counts counts = {0};
     const char *mistake = argc > 1 ? argv[1] : "";
-    wrong[PLAIN] = strcmp(mistake, "all") == 0;
-    wrong[SECOND_CIRCUIT] = wrong[PLAIN] || strcmp(mistake, "second") == 0;
-    wrong[WEIGHTED] = wrong[PLAIN] || strcmp(mistake, "weighted") == 0;
-    reference_trace_spoiled(input, fread(input, 1, sizeof input, stdin), repeat_a_check, &text, &counts);
+    wrong[0] = strcmp(mistake, "both") == 0;
+    wrong[1] = wrong[0] || strcmp(mistake, "second") == 0;
+    reference_trace_spoiled(input, fread(input, 1, sizeof input, stdin), leave_a_check_out, &text, &counts);
     size_t byte = strtoul(mistake, NULL, 10);
     if (byte > 0 && byte <= text.length)
         text.bytes[byte - 1] ^= 1;

@@ -59,9 +59,6 @@ enum-told-17 c = search rules
 enum-told-18 : tie.Need-enum-told-18
 enum-told-18 c = search rules
 
-enum-told-19 : tie.Need-enum-told-19
-enum-told-19 c = search rules
-
 returns : tie.Need-returns
 returns c = ap number_of (sym c.enum_told.given.1)
 
@@ -116,9 +113,6 @@ returns-17 c = ap number_of (sym c.enum-told17.given.1)
 returns-18 : tie.Need-returns-18
 returns-18 c = ap number_of (sym c.enum-told18.given.1)
 
-returns-19 : tie.Need-returns-19
-returns-19 c = ap number_of (sym c.enum-told19.given.1)
-
 pub refusal-number-spec : {M : Type 1} → statement M
 refusal-number-spec =
     tie.close
@@ -141,7 +135,6 @@ refusal-number-spec =
     enum-told-16
     enum-told-17
     enum-told-18
-    enum-told-19
     returns
     returns-2
     returns-3
@@ -159,5 +152,4 @@ refusal-number-spec =
     returns-15
     returns-16
     returns-17
-    returns-18
-    returns-19)
+    returns-18)

@@ -8,7 +8,7 @@ together-requires : tie.Need-together-requires
 together-requires c κs = search rules
 
 returns : tie.Need-returns
-returns c = sym (errors-none _ _ _ _ _ _ _ _ (c.before.together.ensures c.if1.true))
+returns c = sym (errors-none _ _ _ _ _ _ _ (c.before.together.ensures c.if1.true))
 
 decide-marked-requires : tie.Need-decide-marked-requires
 decide-marked-requires c κs = search rules

@@ -10,23 +10,16 @@ use Rattle.decoder.proofs.receive.Tie as tie
 admit-requires : tie.Need-admit-requires
 admit-requires c κs = search rules
 
-slice-aggregate-weighing : tie.Need-slice-aggregate-weighing
-slice-aggregate-weighing c = search rules
-
-weighing-requires : tie.Need-weighing-requires
-weighing-requires c κs = search rules
-
 settle-requires : tie.Need-settle-requires
 settle-requires c κs =
-    let m = c.before.before.before.before.before.before.before.before.before in
-    let k = ap (λ (z : Sizes). z.k) m.before.before.before.before.requires in
+    let m = c.before.before.before.before.before.before.before in
+    let k = ap (λ (z : Sizes). z.k) m.before.before.before.requires in
     (omega arith, λ f e y. room_for _ _ _ _ (sym m.admit.ensures ∙ y))
 
 returns : tie.Need-returns
 returns c =
-    let w = c.before.before.before.before.before.before.before.before.before in
-    let m = w.before.before in
-    receives _ _ _ w.weighing.ensures m.admit.ensures m.before.before.before.before.requires c.before.settle.ensures
+    let m = c.before.before.before.before.before.before.before.before.before in
+    receives _ _ _ m.admit.ensures m.before.before.before.requires c.before.settle.ensures
 
 pub receive-spec : {M : Type 1} → statement M
-receive-spec = tie.close (tie.spec admit-requires slice-aggregate-weighing weighing-requires settle-requires returns)
+receive-spec = tie.close (tie.spec admit-requires settle-requires returns)

@@ -16,7 +16,7 @@ at-most-requires c κs = search rules
 add-taken : tie.Need-overflow-add-taken
 add-taken c =
     let admitted = c.before.before in
-    let l = admitted.before.before.before.before.before.before.before.before.before.requires.1 _ _ (ap frame_yield_of admitted.admitted.given.1) in
+    let l = admitted.before.before.before.before.before.before.before.before.requires.1 _ _ (ap frame_yield_of admitted.admitted.given.1) in
     omega arith
 
 slice-aggregate-put-in : tie.Need-slice-aggregate-put-in
@@ -45,8 +45,8 @@ returns c =
     let marked = c.before.before.before in
     let put = marked.before.before.before.before in
     let place = put.before.before.before in
-    waits _ _ _ _ _ _ _ _ _ place.at_most.ensures put.put_in.ensures marked.put.ensures.0 marked.put.ensures.1 c.if1.true
-    ∙ sym (ap (settled_by _ _ _ _ _ _ _) (ap frame_yield_of place.before.before.admitted.given.1))
+    waits _ _ _ _ _ _ _ _ place.at_most.ensures put.put_in.ensures marked.put.ensures.0 marked.put.ensures.1 c.if1.true
+    ∙ sym (ap (settled_by _ _ _ _ _ _) (ap frame_yield_of place.before.before.admitted.given.1))
 
 slice-aggregate-errors : tie.Need-slice-aggregate-errors
 slice-aggregate-errors c = search rules
@@ -84,13 +84,13 @@ returns-2 c =
     let marked = later.before.before.before in
     let put = marked.before.before.before.before in
     let place = put.before.before.before in
-    hands _ _ _ _ _ _ _ _ _ place.at_most.ensures put.put_in.ensures marked.put.ensures.0 marked.put.ensures.1 later.if1.false
+    hands _ _ _ _ _ _ _ _ place.at_most.ensures put.put_in.ensures marked.put.ensures.0 marked.put.ensures.1 later.if1.false
     decided.errors.ensures out.corrected.ensures fed.feed-back.ensures c.before.move-on.ensures.0 c.before.move-on.ensures.1
-    ∙ sym (ap (settled_by _ _ _ _ _ _ _) (ap frame_yield_of place.before.before.admitted.given.1))
+    ∙ sym (ap (settled_by _ _ _ _ _ _) (ap frame_yield_of place.before.before.admitted.given.1))
 
 returns-3 : tie.Need-returns-3
 unfolding settled_by
-returns-3 c = sym (ap (settled_by _ _ _ _ _ _ _) (ap frame_yield_of c.before.admitted2.given.1))
+returns-3 c = sym (ap (settled_by _ _ _ _ _ _) (ap frame_yield_of c.before.admitted2.given.1))
 
 pub settle-spec : {M : Type 1} → statement M
 settle-spec =

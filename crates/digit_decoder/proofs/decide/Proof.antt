@@ -1,4 +1,6 @@
+use mathlib.Core.Path.{ap}
 use borrow.Author.Rules.{rules}
+use Rattle.vote.specs.declared.voters.Voters.{Voters}
 use Rattle.digit_decoder.specs.Held.{decided_in}
 use Rattle.digit_decoder.proofs.decide.Statement.{statement}
 use Rattle.digit_decoder.proofs.decide.Tie as tie
@@ -20,7 +22,9 @@ decide-requires c κs = search rules
 
 returns : tie.Need-returns
 unfolding decided_in
-returns c = cc (c.decide.ensures, c.before.before.before.before.voting.ensures)
+returns c =
+    let words = ap (λ (v : Voters). v.words) c.before.before.before.before.before.voting.ensures in
+    cc (c.decide.ensures, words)
 
 pub decide-spec : {M : Type 1} → statement M
 decide-spec =

@@ -45,17 +45,14 @@ refused-card-requires c κs = search rules
 enum_told : tie.Need-enum-told
 enum_told c = search rules
 
-opened-requires : tie.Need-opened-requires
-opened-requires c κs = search rules
+slice-aggregate-text : tie.Need-slice-aggregate-text
+slice-aggregate-text c = search rules
+
+text-requires : tie.Need-text-requires
+text-requires c κs = search rules
 
 open-requires-2 : tie.Need-open-requires-2
 open-requires-2 c κs = search rules
-
-plain-weights-requires : tie.Need-plain-weights-requires
-plain-weights-requires c κs = search rules
-
-open-weighted-requires : tie.Need-open-weighted-requires
-open-weighted-requires c κs = search rules
 
 open-requires-3 : tie.Need-open-requires-3
 open-requires-3 c κs = search rules
@@ -95,10 +92,9 @@ trace-spec =
     enum-known-verdict
     refused-card-requires
     enum_told
-    opened-requires
+    slice-aggregate-text
+    text-requires
     open-requires-2
-    plain-weights-requires
-    open-weighted-requires
     open-requires-3
     sub-all
     part-all-start

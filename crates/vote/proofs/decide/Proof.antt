@@ -1,24 +1,23 @@
 -- The loop has decided the errors of the streams that it passed.
-use Prim.Native.Nat.{ℕ, ◌+◌, ◌-◌, ◌^◌, ◌≤◌, ◌<◌}
-use mathlib.Core.Path.{◌≡◌, refl, sym, ap, ap₂, ◌∙◌}
+use Prim.Native.Nat.{◌+◌, ◌-◌, ◌^◌, ◌≤◌, ◌<◌}
+use mathlib.Core.Path.{◌≡◌, refl, sym, ap₂, ◌∙◌}
 use native.Mathlib.Nat.{le_antisymm}
 use native.Mathlib.Omega.{arith}
-use lib.ListN.{get_or}
 use borrow.Author.Rules.{rules}
 use borrow.Author.Tests.{lt-ltb, le-ltb}
 use Rattle.bits.specs.Sums.{sum_below}
 use Rattle.bits.specs.Digits.{from_digits, shift_up}
-use Rattle.vote.specs.Voting.{if_whole, error_by, decide_by}
+use Rattle.vote.specs.Voting.{if_whole, decide_by}
 use Rattle.vote.proofs.Voting.{whole, error_of, errors-more}
 use Rattle.vote.proofs.decide.Statement.{statement}
 use Rattle.vote.proofs.decide.Tie as tie
 
 abbrev invariant-loop : tie.invariant-loop
-invariant-loop weights voting counts checks syndromes k p streams parities errors₀ i₀ errors i =
-    (i ≤ streams) × (errors ≡ from_digits i (error_of weights voting counts checks syndromes parities))
+invariant-loop voting counts checks syndromes k p streams parities errors₀ i₀ errors i =
+    (i ≤ streams) × (errors ≡ from_digits i (error_of voting counts checks syndromes parities))
 
 abbrev decreases-loop : tie.decreases-loop
-decreases-loop weights voting counts checks syndromes k p streams parities errors₀ i₀ errors i = streams - i
+decreases-loop voting counts checks syndromes k p streams parities errors₀ i₀ errors i = streams - i
 
 returns : tie.Need-returns invariant-loop decreases-loop
 unfolding decide_by if_whole
@@ -47,14 +46,17 @@ element-copy-out-ones c = search rules
 ones-requires : tie.Need-ones-requires invariant-loop decreases-loop
 ones-requires c κs = search rules
 
-mul-error : tie.Need-overflow-mul-error invariant-loop decreases-loop
-mul-error c = search rules
+mul-index : tie.Need-overflow-mul-index invariant-loop decreases-loop
+mul-index c = search rules
 
-element-copy-out-error : tie.Need-element-copy-out-error invariant-loop decreases-loop
-element-copy-out-error c = search rules
+element-copy-out-index : tie.Need-element-copy-out-index invariant-loop decreases-loop
+element-copy-out-index c = search rules
 
-error-requires : tie.Need-error-requires invariant-loop decreases-loop
-error-requires c κs = search rules
+index-requires : tie.Need-index-requires invariant-loop decreases-loop
+index-requires c κs = search rules
+
+more-than-half-requires : tie.Need-more-than-half-requires invariant-loop decreases-loop
+more-than-half-requires c κs = search rules
 
 cast-errors : tie.Need-overflow-cast-errors invariant-loop decreases-loop
 cast-errors c = search rules
@@ -63,18 +65,16 @@ shl-errors : tie.Need-overflow-shl-errors invariant-loop decreases-loop
 shl-errors c = search rules
 
 -- the errors with the stream's
-errors_are : (c : tie.After-error invariant-loop decreases-loop) →
-    let turn = c.before.before.before.before.before in
-    let a = turn.before.before.before.before.before.before.before.before.before.args in
-    let e = turn.loop.errors + shift_up c.error.result turn.loop.i in
-    (e < 2 ^ 32)
-    × (e ≡ from_digits (turn.loop.i + 1) (error_of a.weights.now a.voting.now a.counts.now a.checks.now a.syndromes.now turn.before.at-most2.result))
+errors_are : (c : tie.After-more-than-half invariant-loop decreases-loop) →
+    let turn = c.before.before.before.before.before.before in
+    let a = turn.before.before.before.before.before.before.before.args in
+    let e = turn.loop.errors + shift_up c.more-than-half.result turn.loop.i in
+    (e < 2 ^ 32) × (e ≡ from_digits (turn.loop.i + 1) (error_of a.voting.now a.counts.now a.checks.now a.syndromes.now turn.before.at-most2.result))
 errors_are c =
-    let turn = c.before.before.before.before.before in
-    let a = turn.before.before.before.before.before.before.before.before.before.args in
-    let i = turn.loop.i in
-    errors-more a.weights.now a.voting.now a.counts.now a.checks.now a.syndromes.now turn.before.at-most2.result i (omega arith) turn.loop.invariant.1
-    (c.error.ensures ∙ ap (λ (o : ℕ). error_by a.weights.now a.counts.now i (get_or a.voting.now i 0) o) c.before.before.ones.ensures)
+    let turn = c.before.before.before.before.before.before in
+    let a = turn.before.before.before.before.before.before.before.args in
+    errors-more a.voting.now a.counts.now a.checks.now a.syndromes.now turn.before.at-most2.result turn.loop.i (omega arith) turn.loop.invariant.1
+    c.before.before.before.ones.ensures c.before.index.ensures c.more-than-half.ensures
 
 add-errors : tie.Need-overflow-add-errors invariant-loop decreases-loop
 unfolding shift_up
@@ -93,10 +93,10 @@ loop-again c = (omega arith, (errors_are c).1)
 returns-3 : tie.Need-returns-3 invariant-loop decreases-loop
 unfolding decide_by
 returns-3 c =
-    let a = c.before.before.before.before.before.before.before.before.before.before.args in
+    let a = c.before.before.before.before.before.before.before.before.args in
     let l = c.before.loop in
     l.invariant.1
-    ∙ ap₂ (λ n p. from_digits n (error_of a.weights.now a.voting.now a.counts.now a.checks.now a.syndromes.now p))
+    ∙ ap₂ (λ n p. from_digits n (error_of a.voting.now a.counts.now a.checks.now a.syndromes.now p))
     (le_antisymm l.invariant.0 c.loop-test.false ∙ c.before.before.before.at_most.ensures) c.before.before.at-most2.ensures
     ∙ sym (whole a.checks.now a.syndromes.now _ c.before.before.before.before.before.if1.false c.before.before.before.before.if2.false)
 
@@ -114,9 +114,10 @@ decide-spec =
     mul-ones
     element-copy-out-ones
     ones-requires
-    mul-error
-    element-copy-out-error
-    error-requires
+    mul-index
+    element-copy-out-index
+    index-requires
+    more-than-half-requires
     cast-errors
     shl-errors
     add-errors

@@ -1,7 +1,6 @@
 -- The loop has decided the errors of the streams that it passed.
 use Prim.Native.Nat.{ℕ, ◌+◌, ◌-◌, ◌^◌, ◌≤◌, ◌<◌, min}
 use mathlib.Core.Path.{◌≡◌, refl, sym, ap, ap₂, ◌∙◌}
-use mathlib.Core.List.{[]}
 use native.Mathlib.Nat.{le_antisymm}
 use native.Mathlib.Omega.{arith}
 use lib.Count.{ones}
@@ -10,16 +9,16 @@ use borrow.Author.Tests.{lt-ltb, le-ltb}
 use Rattle.bits.specs.Sums.{sum_below}
 use Rattle.bits.specs.Digits.{from_digits, shift_up}
 use Rattle.code.specs.Limits.{most_checks}
-use Rattle.vote.specs.Voters.{all_voting}
+use Rattle.vote.specs.Voters.{all_voting, votersOf}
 use Rattle.vote.specs.Voting.{all_by, if_whole, majority_by, decide_by}
-use Rattle.vote.proofs.Voting.{whole, error_of, errors-more}
+use Rattle.vote.proofs.Voting.{whole, error_of, error-placed}
 use Rattle.vote.proofs.WhoVotes.{all-error}
 use Rattle.vote.proofs.decide_all.Statement.{statement}
 use Rattle.vote.proofs.decide_all.Tie as tie
 
 abbrev invariant-loop : tie.invariant-loop
 invariant-loop counts checks syndromes k p streams parities errors₀ i₀ errors i =
-    (i ≤ streams) × (errors ≡ from_digits i (error_of [] (all_voting counts k) counts checks syndromes parities))
+    (i ≤ streams) × (errors ≡ from_digits i (error_of (votersOf (all_voting counts k)).words (votersOf (all_voting counts k)).counts checks syndromes parities))
 
 abbrev decreases-loop : tie.decreases-loop
 decreases-loop counts checks syndromes k p streams parities errors₀ i₀ errors i = streams - i
@@ -68,13 +67,13 @@ errors_are : (c : tie.After-more-than-half invariant-loop decreases-loop) →
     let turn = c.before.before.before.before.before.before in
     let a = turn.before.before.before.before.before.before.before.before.args in
     let e = turn.loop.errors + shift_up c.more-than-half.result turn.loop.i in
-    (e < 2 ^ 32) × (e ≡ from_digits (turn.loop.i + 1) (error_of [] (all_voting a.counts.now a.k) a.counts.now a.checks.now a.syndromes.now turn.before.at-most2.result))
+    (e < 2 ^ 32) × (e ≡ from_digits (turn.loop.i + 1) (error_of (votersOf (all_voting a.counts.now a.k)).words (votersOf (all_voting a.counts.now a.k)).counts a.checks.now a.syndromes.now turn.before.at-most2.result))
 unfolding majority_by
 errors_are c =
     let turn = c.before.before.before.before.before.before in
     let a = turn.before.before.before.before.before.before.before.before.args in
     let count = c.before.before.at-most3.ensures ∙ ap (λ (x : ℕ). min x most_checks) (c.before.before.before.index.ensures ∙ c.before.before.before.before.word.ensures) in
-    errors-more [] (all_voting a.counts.now a.k) a.counts.now a.checks.now a.syndromes.now turn.before.at-most2.result turn.loop.i (omega arith) turn.loop.invariant.1
+    error-placed (votersOf (all_voting a.counts.now a.k)).words (votersOf (all_voting a.counts.now a.k)).counts a.checks.now a.syndromes.now turn.before.at-most2.result turn.loop.i (omega arith) turn.loop.invariant.1
     (c.more-than-half.ensures
     ∙ ap (λ (o : ℕ). majority_by c.before.before.at-most3.result (ones o)) c.before.all_of.ensures
     ∙ ap (λ (n : ℕ). majority_by n (ones (all_by a.checks.now turn.loop.i n a.syndromes.now turn.before.at-most2.result))) count
@@ -100,7 +99,7 @@ returns-3 c =
     let a = c.before.before.before.before.before.before.before.before.before.args in
     let l = c.before.loop in
     l.invariant.1
-    ∙ ap₂ (λ (n p : ℕ). from_digits n (error_of [] (all_voting a.counts.now a.k) a.counts.now a.checks.now a.syndromes.now p))
+    ∙ ap₂ (λ (n p : ℕ). from_digits n (error_of (votersOf (all_voting a.counts.now a.k)).words (votersOf (all_voting a.counts.now a.k)).counts a.checks.now a.syndromes.now p))
     (le_antisymm l.invariant.0 c.loop-test.false ∙ c.before.before.before.at_most.ensures) c.before.before.at-most2.ensures
     ∙ sym (whole a.checks.now a.syndromes.now _ c.before.before.before.before.before.if1.false c.before.before.before.before.if2.false)
 

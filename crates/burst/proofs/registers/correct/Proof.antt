@@ -28,7 +28,7 @@ returns-2 c =
     let errors = decided.decide-all.ensures in
     record {
       errors_are = voted-errors _ _ _ _ _ pre.0.0 pre.0.1 pre.1.1 errors;
-      errors_lt = decided-small _ _ _ _ _ _ errors;
+      errors_lt = decided-small _ _ _ _ _ errors;
       after_is = inr c.take_out.ensures;
     }
 
@@ -39,7 +39,7 @@ returns-3 c =
     let errors = decided.decide-all.ensures in
     record {
       errors_are = voted-errors _ _ _ _ _ pre.0.0 pre.0.1 pre.1.1 errors;
-      errors_lt = decided-small _ _ _ _ _ _ errors;
+      errors_lt = decided-small _ _ _ _ _ errors;
       after_is = inl (c.if2.false, refl);
     }
 

@@ -7,10 +7,10 @@ use Rattle.trace.proofs.records.all.Statement.{statement}
 use Rattle.trace.proofs.records.all.Tie as tie
 
 abbrev invariant-loop : tie.invariant-loop
-invariant-loop input card s₀ at₀ s at = at ≤ length input
+invariant-loop input s₀ at₀ s at = at ≤ length input
 
 abbrev decreases-loop : tie.decreases-loop
-decreases-loop input card s₀ at₀ s at = length input - at
+decreases-loop input s₀ at₀ s at = length input - at
 
 loop-holds : tie.Need-loop-init invariant-loop decreases-loop
 loop-holds c = omega arith

@@ -1,4 +1,0 @@
-pub mod Weights
-pub mod Record
-pub mod Weighing
-pub mod WeightRows
