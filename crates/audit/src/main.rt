@@ -1,4 +1,6 @@
 // Audits stored cards: files by name as arguments, a line to standard output for each that holds no good card, and last the count of those that do.
+#![tactic(auto)]
+
 ghost use Rattle.std.specs.Prelude.{◌≤◌, length};
 
 use libc::{SEEK_CUR, SEEK_END, SEEK_SET, STDERR_FILENO, STDOUT_FILENO};

@@ -1,5 +1,7 @@
 // The bench: the cases of document 01, "Cards on the bench". The starred ones are a theorem over the definitions; all of them run here
 // through the code, and the lines are held to `stdout`.
+#![tactic(auto)]
+
 mod bursts;
 mod decoding;
 mod drafts;

@@ -1,4 +1,6 @@
 // Digits of 32-bit words. Every function is total: beyond a word or a table there are zeros.
+#![tactic(auto)]
+
 ghost use Rattle.std.specs.Prelude.{◌≡◌, ◌/◌, ◌^◌, ◌<◌, min, get_or, leb};
 ghost use Rattle.bits.specs.Digits.{bit, shift_up, any_beyond};
 

@@ -1,4 +1,6 @@
 // What the controller firmware calls: whole bursts of frames, a card written out, and the standard cards.
+#![tactic(auto)]
+
 mod answer;
 mod one_parity_receive;
 mod one_parity_send;

@@ -1,5 +1,7 @@
 // A burst's vote under a card with one parity stream, whose syndromes are one word. Most checks are a single syndrome, and how many of those are 1 is one
 // count of ones: so the checks are sorted once, and a vote works out the parities of the others alone.
+#![tactic(auto)]
+
 ghost use Rattle.std.specs.Prelude.{◌≡◌, true, ◌+◌, ◌%◌, ◌<◌, ◌≤◌, min, length, get_or};
 ghost use Rattle.bits.specs.Digits.{dot};
 ghost use Rattle.code.specs.Limits.{most_checks};

@@ -1,4 +1,6 @@
 // Link cards: reading one from its bytes, and why something is refused.
+#![tactic(auto)]
+
 mod checks;
 mod fields;
 mod parts;

@@ -1,5 +1,7 @@
 // The code and the checks that a card names, and the code by registers: bit a of history register i is information digit i of the frame a before
 // the last one taken.
+#![tactic(auto)]
+
 pub mod erased;
 
 ghost use Rattle.std.specs.Prelude.{◌≡◌, ◌<◌};

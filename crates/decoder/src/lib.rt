@@ -1,6 +1,8 @@
 // The receiving session: frames in, frames out, by Massey's majority rule with feedback. A frame's way is three steps, and each takes what is held and a few
 // small values, the card's tables by reference: it is put in, the errors of the frame m before it are decided, and that frame is handed out with them fed
 // back.
+#![tactic(auto)]
+
 mod registers;
 
 ghost use Rattle.std.specs.Prelude.{◌≡◌, ℕ, ◌<◌, ◌≤◌};

@@ -2,6 +2,8 @@
 // refusals are those of the first circuit's (`decoder`), and so are the frames that it hands out; it has no link figure. A frame's way is three steps, and
 // each takes what is held and a few small values, the card's tables by reference: it is put in, the frame m before it is decided, and that is handed out and
 // stands from then on in place of what was received.
+#![tactic(auto)]
+
 mod registers;
 
 ghost use Rattle.std.specs.Prelude.{◌≡◌, ℕ, ◌<◌, ◌≤◌};

@@ -1,4 +1,6 @@
 // The sending session: information frames, then the tail.
+#![tactic(auto)]
+
 ghost use Rattle.std.specs.Prelude.{◌≡◌};
 ghost use Rattle.card.specs.Refusals.{number_of};
 ghost use Rattle.encoder.specs.Opening.{OpenPromise};

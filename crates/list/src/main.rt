@@ -1,4 +1,6 @@
 // Lists a card and received frames: standard input to standard output.
+#![tactic(auto)]
+
 use libc::{STDERR_FILENO, STDIN_FILENO, STDOUT_FILENO};
 use listing::{LISTING_ROOM, LONGEST_INPUT};
 

@@ -1,4 +1,6 @@
 // The listing: a card and received frames as text. Beside it, stored cards audited, and written anew.
+#![tactic(auto)]
+
 pub mod auditing;
 mod lines;
 pub mod rewriting;

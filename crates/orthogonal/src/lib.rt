@@ -1,5 +1,7 @@
 // What a check touches, a word of each stream, and whether the checks of a stream are orthogonal, check by check: one pass over a check works out the
 // errors that it touches, tests them against those of the earlier checks and adds them.
+#![tactic(auto)]
+
 ghost use Rattle.std.specs.Prelude.{◌≡◌, ℕ, ◌+◌, ◌*◌, ◌%◌, ◌<◌, ◌≤◌, ◌++◌, length, get_or, drop};
 ghost use Rattle.std.specs.Int.Bits.{bit_or};
 ghost use Rattle.bits.specs.Sums.{sum_below, up_to, back};

@@ -1,5 +1,7 @@
 // What a burst and a listing come to, by the definitions, and the third term for a burst: the code of `burst` and `listing` is proved to come to
 // this. The only code here is what several crates share: the answers of the calls, and the length of the card that an input states.
+#![tactic(auto)]
+
 pub mod answer;
 
 ghost use Rattle.std.specs.Prelude.{◌≡◌};

@@ -1,5 +1,7 @@
 // What the receiving sessions have in common: frames as they come, bytes or readings, the refusals that a call meets, in their order, and the
 // answers. What holds of any list of calls, whatever the session is, stands in specs/Calls.antt and specs/Claims.antt.
+#![tactic(auto)]
+
 ghost use Rattle.std.specs.Prelude.{◌≡◌, ◌≤◌, min};
 ghost use Rattle.card.specs.Outcome.{outcome_of};
 ghost use Rattle.receiving.specs.Opening.{counted_at};

@@ -1,4 +1,6 @@
 // Writes a stored card anew: standard input to standard output.
+#![tactic(auto)]
+
 use libc::{STDERR_FILENO, STDIN_FILENO, STDOUT_FILENO};
 use listing::rewriting::REWRITING_ROOM;
 use outcomes::MOST_CARD_BYTES;

@@ -1,4 +1,6 @@
 // The standard cards, which most sites take: k 1, n 2 and J checks, by the report's rule for self-orthogonal codes.
+#![tactic(auto)]
+
 ghost use Rattle.std.specs.Prelude.{◌≡◌};
 ghost use Rattle.outcomes.specs.Outcome.{outcome, fitted};
 ghost use Rattle.writer.specs.Outcome.{answer_of};

@@ -1,5 +1,7 @@
 // Drives the sessions from outside, so that they can be tried by anything. Standard input: a two-byte card length and the card, as for the
 // listing, then records to the end; one line of output for each. The records are those of docs/TRACE.md.
+#![tactic(auto)]
+
 mod lines;
 mod records;
 

@@ -2,6 +2,8 @@
 // (`voters`); digit q of the other, check q votes and is 1. In the first circuit and the burst bit a of register j is the syndrome of parity stream j, the
 // errors decided before taken out, a frames after the frame that is decided; in the second it is a sum of digits. It decides as the rule on whole
 // streams (`majority`) does.
+#![tactic(auto)]
+
 pub mod voters;
 
 ghost use Rattle.std.specs.Prelude.{◌≡◌, cond, ◌+◌, ◌*◌, ◌<◌, ◌≤◌, ltb, length};

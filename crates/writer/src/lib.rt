@@ -1,4 +1,6 @@
 // Writing a card: the bytes that are read as that card, with no field that is equal to its default.
+#![tactic(auto)]
+
 mod masks;
 mod parts;
 
