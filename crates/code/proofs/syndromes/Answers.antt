@@ -1,0 +1,6 @@
+use Rattle.code.specs.Registers.{syndromes_by}
+use Rattle.code.proofs.syndromes.Goals as goal
+
+pub returns : goal.returns
+unfolding syndromes_by
+returns c = rw (c.frame-sent.ensures, c.at_most.ensures) at c.shift_down.ensures
