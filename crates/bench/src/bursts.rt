@@ -1,7 +1,7 @@
 // Whole bursts: the line of one, whether it is sent or received.
 use crate::{drafts, lines, tables};
 
-#[derive(Drop)]
+#[derive(Clone, Copy)]
 pub(crate) enum Call {
     Send,
     Receive,

@@ -7,7 +7,7 @@ use crate::{bursts, decoding, levels, limits, lines, listed, reading, sending};
 use card::CardRule;
 
 // What the rows of a table are about.
-#[derive(Drop)]
+#[derive(Clone, Copy)]
 pub(crate) enum Kind {
     Card,
     StoredCard,

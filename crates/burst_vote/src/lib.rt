@@ -14,7 +14,7 @@ use vote::more_than_half;
 pub const SEVERAL_WORDS: usize = MOST_CHECKS * 4;
 
 // The checks of each information stream on one syndrome register, sorted.
-#[derive(Drop)]
+#[derive(Clone, Copy)]
 pub struct SortedChecks {
     pub alone: [u32; 4], // the syndromes that are a check of stream i by themselves
     pub several: [u32; SEVERAL_WORDS], // the other checks, stream i's r-th at i * MOST_CHECKS + r

@@ -16,7 +16,7 @@ use code::{CHECK_WORDS, Card, MOST_CHECKS};
 pub const LONGEST_CARD: usize = 5 + (2 + 4 * 16) + 4 * (1 + MOST_CHECKS * (1 + 4 * 4));
 
 // Why something is refused. Each case has its published number, by `refusal_number`.
-#[derive(Drop)]
+#[derive(Clone, Copy)]
 pub enum Refusal {
     CardCutShort,
     KOutOfRange,
@@ -40,21 +40,21 @@ pub enum Refusal {
 
 // Under which rule a card is read. A field that stands with its default is good under the former one, under which stored cards are read a last
 // time, and is refused under the present one.
-#[derive(Drop)]
+#[derive(Clone, Copy)]
 pub enum CardRule {
     Former,
     Present,
 }
 
 // What reading a card comes to.
-#[derive(Drop)]
+#[derive(Clone, Copy)]
 pub enum Verdict {
     Accepted,
     Refused { refusal: Refusal, offset: usize },
 }
 
 // The verdict, and the card that was read: the empty card where it is refused.
-#[derive(Drop)]
+#[derive(Clone, Copy)]
 pub struct CardRead {
     pub verdict: Verdict,
     pub card: Card,

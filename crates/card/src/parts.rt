@@ -10,7 +10,7 @@ use crate::{CardRule, Refusal, Verdict, fields};
 use code::{CHECK_WORDS, Card};
 
 // What the head of a card states.
-#[derive(Drop)]
+#[derive(Clone, Copy)]
 pub(crate) struct Sizes {
     pub number: u8,
     pub k: usize, // information streams

@@ -7,7 +7,7 @@ ghost use Rattle.clients.specs.Touched.{After, Holds};
 use orthogonal::Judgement;
 
 // What the pass over a check gives, and the errors touched after it.
-#[derive(Drop)]
+#[derive(Clone, Copy)]
 pub struct Judged {
     pub judgement: Judgement,
     pub touched: [u32; 8],

@@ -20,7 +20,7 @@ pub const CHECK_STRIDE: usize = MOST_CHECKS * 8;
 pub const CHECK_WORDS: usize = CHECK_STRIDE * 4;
 
 // What a card states; what it does not state is zero, so equal cards are equal values.
-#[derive(Drop)]
+#[derive(Clone, Copy)]
 pub struct Card {
     pub number: u8,
     pub k: usize, // information streams
@@ -32,7 +32,7 @@ pub struct Card {
 }
 
 // k, p, n = k + p and m of a card.
-#[derive(Drop)]
+#[derive(Clone, Copy)]
 pub struct Sizes {
     pub k: usize,
     pub p: usize,

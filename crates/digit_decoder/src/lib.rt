@@ -19,7 +19,7 @@ use code::{Card, Sizes};
 use receiving::{Answer, ReadFrame, Reading};
 
 // What a session holds of the frames that it took.
-#[derive(Drop)]
+#[derive(Clone, Copy)]
 pub struct Held {
     pub digits: [u32; 8], // bit a of register s: the digit of stream s received a after the frame that is decided next
     pub decided: [u32; 4], // bit 32 - b of register i: information digit i as decided, b before the frame that is decided next
@@ -28,7 +28,7 @@ pub struct Held {
 }
 
 // What a session is between two calls.
-#[derive(Drop)]
+#[derive(Clone, Copy)]
 pub struct Session {
     pub card: Card,
     pub held: Held,
@@ -36,14 +36,14 @@ pub struct Session {
 }
 
 // The answer, and the session for the next call.
-#[derive(Drop)]
+#[derive(Clone, Copy)]
 pub struct Received {
     pub answer: Answer,
     pub session: Session,
 }
 
 // What opening comes to: the verdict of card reading, and the session.
-#[derive(Drop)]
+#[derive(Clone, Copy)]
 pub struct Opened {
     pub verdict: Verdict,
     pub session: Session,

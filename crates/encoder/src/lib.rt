@@ -11,7 +11,7 @@ use card::{CardRule, Refusal, Verdict};
 use code::{Card, MOST_FRAMES};
 
 // A session. What came before its first frame is zero, as the code says.
-#[derive(Drop)]
+#[derive(Clone, Copy)]
 pub struct Session {
     pub card: Card,
     pub history: [u32; 4], // bit a of register i: information digit i of the frame a before the last one sent
@@ -19,21 +19,21 @@ pub struct Session {
     pub tail: usize, // tail frames out
 }
 
-#[derive(Drop)]
+#[derive(Clone, Copy)]
 pub enum Answer {
     Frame(u8),
     Refused(Refusal),
 }
 
 // What a call answers, and the session that the next call gets.
-#[derive(Drop)]
+#[derive(Clone, Copy)]
 pub struct Sent {
     pub answer: Answer,
     pub session: Session,
 }
 
 // What opening comes to: the verdict of card reading, and the session.
-#[derive(Drop)]
+#[derive(Clone, Copy)]
 pub struct Opened {
     pub verdict: Verdict,
     pub session: Session,

@@ -20,7 +20,7 @@ pub const MOST_NAME: usize = 131072;
 pub const AUDIT_ROOM: usize = MOST_NAME + 1 + 36;
 
 // What became of a file: the count of its line's bytes, 0 where there is none, and what it adds to the count of those that pass.
-#[derive(Drop)]
+#[derive(Clone, Copy)]
 pub struct Audited {
     pub count: usize,
     pub passed: usize,

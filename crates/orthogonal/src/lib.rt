@@ -11,14 +11,14 @@ ghost use Rattle.orthogonal.specs.Judgements.{judgement_number};
 ghost use Rattle.orthogonal.specs.Pass.{Touched, Clash, Passed, word_code, information_streams, parity_streams, first_masks};
 
 // Why a check does not stand. Each case has its published number, by `failure_number`.
-#[derive(Drop)]
+#[derive(Clone, Copy)]
 pub enum Failure {
     OwnDigitUntouched,
     ErrorTouchedBefore,
 }
 
 // Whether a whole check stands.
-#[derive(Drop)]
+#[derive(Clone, Copy)]
 pub enum Judgement {
     Stands,
     Fails(Failure),

@@ -12,14 +12,14 @@ use card::{Refusal, Verdict};
 use code::MOST_FRAMES;
 
 // A level, or the mark 'erased'. A level close to zero is a guess, and is erased as well.
-#[derive(Drop)]
+#[derive(Clone, Copy)]
 pub enum Reading {
     Level(f32),
     Erased,
 }
 
 // What a receiving call answers.
-#[derive(Drop)]
+#[derive(Clone, Copy)]
 pub enum Answer {
     Waiting,
     Frame(u8),
@@ -35,7 +35,7 @@ enum ReadDigit {
 }
 
 // What a frame yields, as it came: its digits, an erased one as 0, and a 1 for each that is erased.
-#[derive(Drop)]
+#[derive(Clone, Copy)]
 pub enum ReadFrame {
     Frame { digits: u8, erased: u8 },
     Refused(Refusal),

@@ -35,7 +35,8 @@ fn give(bytes: &[u8], output: &mut [u8]) -> CardWritten
     if output.len() < bytes.len() {
         return CardWritten::Refused(Refusal::OutputTooShort);
     }
-    let count = bytes::copy(bytes, output);
+    let count = bytes.len();
+    output[..count].copy_from_slice(bytes);
     CardWritten::Count(count)
 }
 

@@ -11,7 +11,7 @@ pub fn send(card: &[u8], input: &[u8], output: &mut [u8]) -> i32
 }
 
 // The card that was read, and what receiving by it answers.
-#[derive(Drop)]
+#[derive(Clone, Copy)]
 pub struct Received {
     pub read: CardRead,
     pub answer: i32,

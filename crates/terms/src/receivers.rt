@@ -14,7 +14,7 @@ use card::{CardRead, CardRule};
 use receiving::Reading;
 
 // What the same bytes give: the card, and a session of each circuit.
-#[derive(Drop)]
+#[derive(Clone, Copy)]
 pub struct Opened {
     pub read: CardRead,
     pub first: decoder::Opened,

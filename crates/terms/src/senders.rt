@@ -10,7 +10,7 @@ use card::{CardRead, CardRule};
 use encoder::{Sent, Session};
 
 // What the same bytes give: the card, and a session.
-#[derive(Drop)]
+#[derive(Clone, Copy)]
 pub struct Opened {
     pub read: CardRead,
     pub sender: encoder::Opened,

@@ -8,7 +8,7 @@ ghost use Rattle.vote.specs.Voters.{voting_by, stream_voters_by, all_voting, vot
 use code::{CHECK_STRIDE, MOST_CHECKS};
 
 // The checks that vote, a word for each stream, and how many they are.
-#[derive(Drop)]
+#[derive(Clone, Copy)]
 pub struct Voters {
     pub words: [u32; 4],
     pub counts: [u32; 4],

@@ -16,7 +16,7 @@ use card::Refusal;
 use code::{CHECK_WORDS, Card};
 
 // What writing a card comes to: the count of bytes, or the refusal.
-#[derive(Drop)]
+#[derive(Clone, Copy)]
 pub enum CardWritten {
     Count(usize),
     Refused(Refusal),
