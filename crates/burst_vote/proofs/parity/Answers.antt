@@ -3,11 +3,7 @@ use mathlib.Core.Path.{refl, ap}
 use native.Mathlib.Omega.{arith}
 use lib.Bits.{and_lt}
 use Rattle.vote.proofs.Voting.{ones-of-common}
-use Rattle.burst_vote.proofs.parity.Statement.{statement}
-use Rattle.burst_vote.proofs.parity.Tie as tie
+use Rattle.burst_vote.proofs.parity.Goals as goal
 
-returns : tie.Need-returns
+pub returns : goal.returns
 returns c = let a = c.args in ap (λ n. n % 2) (ones-of-common a.mask a.word refl (and_lt 32 a.mask a.word (omega arith) (omega arith)))
-
-pub parity-spec : {M : Type 1} → statement M
-parity-spec = tie.close (tie.spec returns)
