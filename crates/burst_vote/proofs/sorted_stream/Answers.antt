@@ -4,6 +4,7 @@ use native.Mathlib.Nat.{le_antisymm}
 use native.Mathlib.Omega.{arith}
 use Rattle.burst_vote.proofs.Sorting.{none-sorted, joined, listed}
 use Rattle.burst_vote.proofs.sorted_stream.Goals as goal
+use Rattle.burst_vote.proofs.sorted_stream.Goals.{then-joins, else-joins}
 
 pub loop-q-init : goal.loop-q-init
 loop-q-init c = (omega arith, none-sorted _ _ _ c.requires.2)
@@ -12,8 +13,10 @@ pub loop-q-preserved : goal.loop-q-preserved
 loop-q-preserved c =
     let l = c.loop-q in (
       omega arith,
-      ⊎_elim (λ w. rw (w.1, w.2, w.3) (joined l.invariant.1 (c.joins.ensures w.0.taken)))
-          (λ w. rw (w.1, w.2, w.3) (listed l.invariant.1 (omega arith) (omega arith))) c.if-joins.branch,
+      elim c.if-joins.branch [
+        then-joins w ↦ rw (w.several-is, w.alone-is, w.left-is) (joined l.invariant.1 (c.joins.ensures w.if-joins.true))
+      | else-joins w ↦ rw (w.several-is, w.alone-is, w.left-is) (listed l.invariant.1 (omega arith) (omega arith))
+      ],
     )
 
 pub returns : goal.returns

@@ -8,6 +8,7 @@ use Rattle.receiving.specs.Readings.{digit, yield_of, digit_of, reading_at}
 use Rattle.receiving.proofs.Yields.{read-refused}
 use Rattle.receiving.proofs.Read.{read_none, digit_lt, read-digit, read-erased, read_all}
 use Rattle.receiving.proofs.frame_of.Goals as goal
+use Rattle.receiving.proofs.frame_of.Goals.{in-Digit, in-Erased}
 use Rattle.receiving.proofs.frame_of.Goals.{After-shift_up-frame}
 
 pub loop-s-init : goal.loop-s-init
@@ -21,7 +22,7 @@ shift_up-frame-requires c = tt
 
 -- the reading of this turn yields the digit that is put in
 yielded : (c : After-shift_up-frame)
-    → digit_of (reading_at c.args.t1 c.loop-s.s)
+    → digit_of (reading_at c.args.readings c.loop-s.s)
     ≡ digit c.in-Digit.digit
 yielded c = sym c.digit_of-yielded.ensures ∙ ap yield_of c.in-Digit.is
 
@@ -29,8 +30,7 @@ pub overflow_add-frame : goal.overflow_add-frame
 overflow_add-frame c =
     let l = c.loop-s in
     let a = c.args in
-    let d = c.in-Digit.digit in
-    record { fits = omega (arith, c.shift_up-frame.ensures, placed-fits l.frame d l.s l.invariant.1.frame-lt (digit_lt a.t1 l.s l.frame l.marks l.invariant.1 (omega arith) d (yielded (goal.at.overflow_add-frame c).After-shift_up-frame)) (omega arith)) }
+    record { fits = omega (arith, c.shift_up-frame.ensures, placed-fits l.frame c.in-Digit.digit l.s l.invariant.1.frame-lt (digit_lt a.readings l.s l.frame l.marks l.invariant.1 (omega arith) c.in-Digit.digit (yielded (goal.at.overflow_add-frame c).After-shift_up-frame)) (omega arith)) }
 
 pub shift_up-marks-requires : goal.shift_up-marks-requires
 shift_up-marks-requires c = tt
@@ -42,8 +42,7 @@ overflow_add-marks c =
 
 pub returns-in-Refused : goal.returns-in-Refused
 returns-in-Refused c =
-    let g = c.yielded-in-Refused-1.given in
-    sym (read-refused c.args.t1 c.args.n c.loop-s.s _ (omega arith) (sym c.digit_of-yielded.ensures ∙ ap yield_of g.1))
+    sym (read-refused c.args.readings c.args.n c.loop-s.s _ (omega arith) (sym c.digit_of-yielded.ensures ∙ ap yield_of c.in-Refused.is))
 
 pub loop-s-preserved : goal.loop-s-preserved
 loop-s-preserved c =
@@ -51,14 +50,14 @@ loop-s-preserved c =
     let a = c.args in
     let hs : l.s < 32 = omega arith in (
       omega arith,
-      ⊎_elim
-          (λ w.
-          rw (w.4, w.5, w.3.ensures)
-          (read-digit a.t1 l.s l.frame l.marks l.invariant.1 hs w.1.given.0.0 (sym c.digit_of-yielded.ensures ∙ ap yield_of w.1.given.1)))
-          (λ w.
-          rw (w.3, w.4, w.2.ensures)
-          (read-erased a.t1 l.s l.frame l.marks l.invariant.1 hs (sym c.digit_of-yielded.ensures ∙ ap yield_of w.1.given.1)))
-          c.match-yielded.branch,
+      elim c.match-yielded.branch [
+        in-Digit w ↦
+          rw (w.frame-is, w.marks-is, w.shift_up-frame.ensures)
+          (read-digit a.readings l.s l.frame l.marks l.invariant.1 hs w.in-Digit.digit (sym c.digit_of-yielded.ensures ∙ ap yield_of w.in-Digit.is))
+      | in-Erased w ↦
+          rw (w.frame-is, w.marks-is, w.shift_up-marks.ensures)
+          (read-erased a.readings l.s l.frame l.marks l.invariant.1 hs (sym c.digit_of-yielded.ensures ∙ ap yield_of w.in-Erased.is))
+      ],
     )
 
 pub overflow_cast-digits : goal.overflow_cast-digits
@@ -74,4 +73,4 @@ overflow_cast-erased c =
 pub returns : goal.returns
 returns c =
     let l = c.loop-s in
-    read_all c.args.t1 _ l.s l.frame l.marks l.invariant.0 c.loop-s-test.false l.invariant.1
+    read_all c.args.readings _ l.s l.frame l.marks l.invariant.0 c.loop-s-test.false l.invariant.1
