@@ -71,7 +71,7 @@ empty (x ∷ l) e = absurd (omega arith)
 -- `none` is what the first call leaves of no room
 module _ (c : Card) (output : List ℕ) {none : List ℕ} {count : ℕ} {s : List ℕ} (e : s ≡ written c) (w : Wrote [] 0 s none count) where
   counted : count ≡ length (written c)
-  counted = omega (arith, w.end-is, ap length e)
+  counted = omega (arith, w.end_is, ap length e)
 
   still : none ++ output ≡ output
   still = ap (λ (l : List ℕ). l ++ output) (empty none (wrote-length w))

@@ -12,11 +12,11 @@ slice_bounds-lay_out-end-2 c = sym (length-take-le _ c.args.output.now (search r
 pub returns-then-output-count : goal.returns-then-output-count
 returns-then-output-count c =
     let a = c.args in
-    let e = laid-is a.t1 c.at_most-k.ensures c.at_most-p.ensures c.at-most3.ensures in
-    record { output_after = answer-short a.t1 a.output.now e c.lay_out-count.ensures c.if-output-count.true; written_form = written-form a.t1 }
+    let e = laid-is a.card c.at_most-k.ensures c.at_most-p.ensures c.at_most-m.ensures in
+    record { output_after = answer-short a.card a.output.now e c.lay_out-count.ensures c.if-output-count.true; written_form = written-form a.card }
 
 pub returns : goal.returns
 returns c =
     let a = c.args in
-    let e = laid-is a.t1 c.at_most-k.ensures c.at-most2.ensures c.at-most3.ensures in
-    record { output_after = answer-count a.t1 a.output.now e c.lay-out.ensures c.if1.false c.lay_out.ensures; written_form = written-form a.t1 }
+    let e = laid-is a.card c.at_most-k.ensures c.at_most-p.ensures c.at_most-m.ensures in
+    record { output_after = answer-count a.card a.output.now e c.lay_out-count.ensures c.if-output-count.false c.lay_out.ensures; written_form = written-form a.card }

@@ -12,7 +12,7 @@ use Rattle.writer.proofs.parts.stream.Goals as goal
 
 pub loop-q-init : goal.loop-q-init
 unfolding up_to checks_of layout_checks
-loop-q-init c = (omega arith, wrote_nothing c.byte-end.new.0 c.byte-end.result)
+loop-q-init c = (omega arith, wrote_nothing c.byte-end.new.output c.byte-end.result)
 
 pub check-end-requires : goal.check-end-requires
 check-end-requires c =
