@@ -17,4 +17,4 @@ loop-j-preserved c =
     (omega arith, none_more (λ b. get_or a.syndromes.now b 0) l.j l.all c.word-all.ensures l.invariant.1)
 
 pub returns : goal.returns
-returns c = c.loop-j.invariant.1 e j (omega arith)
+returns c = λ e j l. c.loop-j.invariant.1 e j (omega arith)
