@@ -3,9 +3,6 @@ use mathlib.Core.Path.{refl, sym, ap, ◌∙◌}
 use mathlib.Core.List.{List, ◌++◌}
 use Prim.Native.Nat.{ℕ}
 use lib.ListN.{length, drop}
-use lib.Seq.{take_all}
-use lib.IntN.{pos}
-use native.Mathlib.Omega.{arith}
 use Rattle.outcomes.proofs.Outcomes.{refused-is, given_is, fitted_short, fitted-given}
 use Rattle.standard.proofs.give.Goals as goal
 
@@ -17,8 +14,7 @@ returns-then-output-bytes c =
 pub returns : goal.returns
 returns c =
     let a = c.args in
-    let copied = c.copy in
     let count = length a.bytes.now in
-    given_is count a.bytes.now a.output.now refl (ap pos copied.ensures.0)
-    (copied.ensures.1 ∙ ap (λ (l : List ℕ). l ++ drop count a.output.now) (take_all count a.bytes.now (omega arith)))
+    given_is count a.bytes.now a.output.now refl refl
+    (ap (λ (l : List ℕ). l ++ drop count a.output.now) c.copy_from_slice.ensures.after)
     ∙ sym (fitted-given a.bytes.now a.output.now c.if-output-bytes.false)
