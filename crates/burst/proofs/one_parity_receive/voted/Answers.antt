@@ -14,8 +14,4 @@ returns-then-index-least c =
           sym (few-held number g a.counts.now checks a.k m G a.held a.least (omega arith) counted (omega (arith, c.if-index-least.true, c.index.ensures))) }
 
 pub returns : goal.returns
-returns c = (
-  sorted-small _ _ _ _ _ _ c.decide_sorted.ensures,
-  λ number m g checks G sorted counted. c.decide_sorted.ensures ∙ sorted-decides _ checks _ _ _ _ _ sorted,
-
-)
+returns c = record { upper_bound = sorted-small _ _ _ _ _ _ c.decide_sorted.ensures; by_index = λ number m g checks G sorted counted. c.decide_sorted.ensures ∙ sorted-decides _ checks _ _ _ _ _ sorted }

@@ -41,13 +41,12 @@ pub loop-u-preserved : goal.loop-u-preserved
 loop-u-preserved c =
     let l = c.loop-u in
     let a = c.args in
-    let pre = c.requires in
     let T = c.take_in-held.ensures in
     let C = c.correct-errors.ensures in (
       omega arith,
-      after-length C (omega (arith, pre)) (syndromes-length T (omega (arith, pre)) l.invariant.1),
-      coming-length T (omega (arith, pre)) l.invariant.2,
-      after_none C (none-beyond T (omega (arith, pre)) l.invariant.3),
+      after-length C (omega (arith, c.requires)) (syndromes-length T (omega (arith, c.requires)) l.invariant.1),
+      coming-length T (omega (arith, c.requires)) l.invariant.2,
+      after_none C (none-beyond T (omega (arith, c.requires)) l.invariant.3),
       length-set l.output l.u c.corrected.result ∙ l.invariant.4,
       λ g e number G output₀ same handing.
           hand-turn (card_from number g a.counts.now a.checks.now a.k a.p a.m) G a.sums.now e a.input.now l.u c.corrected.result output₀

@@ -16,21 +16,21 @@ use Rattle.burst.proofs.receive.receive_under.Goals as goal
 pub returns-then-input-gt-MOST_FRAMES : goal.returns-then-input-gt-MOST_FRAMES
 returns-then-input-gt-MOST_FRAMES c = λ number G.
     let a = c.args in
-    refused-is 15 a.output.now (answer-is c.refused.result c.refused.type-inv c.refused.ensures)
+    refused-is 15 a.output.now (answer-is c.refused.result c.refused.type_inv c.refused.ensures)
     ∙ sym (receive-full _ a.input.now a.output.now c.if-input-gt-MOST_FRAMES.true)
 
 pub returns-then-output-count : goal.returns-then-output-count
 returns-then-output-count c = λ number G.
     let a = c.args in
     let l : length a.output.now < length a.input.now - a.m = rw c.after_first-count.ensures at c.if-output-count.true in
-    refused-is 13 a.output.now (answer-is c.refused-then-output-count.result c.refused-then-output-count.type-inv c.refused-then-output-count.ensures)
+    refused-is 13 a.output.now (answer-is c.refused-then-output-count.result c.refused-then-output-count.type_inv c.refused-then-output-count.ensures)
     ∙ sym (receive-short _ a.input.now a.output.now c.if-input-gt-MOST_FRAMES.false l)
 
 pub returns-then-any_beyond : goal.returns-then-any_beyond
 returns-then-any_beyond c = λ number G.
     let a = c.args in
     let o : length a.input.now - a.m ≤ length a.output.now = rw c.after_first-count.ensures at c.if-output-count.false in
-    refused-is 11 a.output.now (answer-is c.refused-then-any_beyond.result c.refused-then-any_beyond.type-inv c.refused-then-any_beyond.ensures)
+    refused-is 11 a.output.now (answer-is c.refused-then-any_beyond.result c.refused-then-any_beyond.type_inv c.refused-then-any_beyond.ensures)
     ∙ sym (receive-beyond _ a.input.now a.output.now c.if-input-gt-MOST_FRAMES.false o (sym c.any_beyond.ensures ∙ c.if-any_beyond.true))
 
 pub receive_frames-requires : goal.receive_frames-requires
@@ -45,5 +45,5 @@ returns c = λ number G.
     let n = c.after_first-count.ensures in
     let o : length a.input.now - a.m ≤ length a.output.now = rw n at c.if-output-count.false in
     given_is (length a.input.now - a.m) (decoded card a.input.now) a.output.now (decoded-length card a.input.now)
-    (counted_is c.counted.result c.counted.type-inv c.counted.ensures (omega (arith, n)) ∙ ap pos n) (c.receive_frames.ensures number G)
+    (counted_is c.counted.result c.counted.type_inv c.counted.ensures (omega (arith, n)) ∙ ap pos n) (c.receive_frames.ensures number G)
     ∙ sym (receive-given card a.input.now a.output.now c.if-input-gt-MOST_FRAMES.false o (sym c.any_beyond.ensures ∙ c.if-any_beyond.false))

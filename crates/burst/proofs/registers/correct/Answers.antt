@@ -19,20 +19,18 @@ take_out-requires c = search (rules, decided-small)
 
 pub returns-then-errors-ne0 : goal.returns-then-errors-ne0
 returns-then-errors-ne0 c =
-    let pre = c.requires in
     let errors = c.decide_all-errors.ensures in
     record {
-      errors_are = voted-errors _ _ _ _ _ pre.0.0 pre.0.1 pre.1.1 errors;
+      errors_are = voted-errors _ _ _ _ _ c.requires.p_bound.0 c.requires.p_bound.1 c.requires.j_value.1 errors;
       errors_lt = decided-small _ _ _ _ _ errors;
       after_is = inr c.take_out.ensures;
     }
 
 pub returns-else-errors-ne0 : goal.returns-else-errors-ne0
 returns-else-errors-ne0 c =
-    let pre = c.requires in
     let errors = c.decide_all-errors.ensures in
     record {
-      errors_are = voted-errors _ _ _ _ _ pre.0.0 pre.0.1 pre.1.1 errors;
+      errors_are = voted-errors _ _ _ _ _ c.requires.p_bound.0 c.requires.p_bound.1 c.requires.j_value.1 errors;
       errors_lt = decided-small _ _ _ _ _ errors;
       after_is = inl (c.if-errors-ne0.false, refl);
     }

@@ -10,9 +10,8 @@ loop-x-init c = (omega arith, refl, λ y b l. absurd (omega arith))
 
 pub put_sums-requires : goal.put_sums-requires
 put_sums-requires c =
-    let h = c.requires in
     let l = c.loop-x in
-    record { k_bound = (h.0, h.1, (turn-of _ _ h.0 c.loop-x-test.true).1, l.invariant.1); has_sums = l.invariant.2 }
+    record { k_bound = (c.requires.0, c.requires.1, (turn-of _ _ c.requires.0 c.loop-x-test.true).1, l.invariant.1); has_sums = l.invariant.2 }
 
 pub overflow_add-x : goal.overflow_add-x
 overflow_add-x c = omega (arith, turn-of _ _ c.requires.0 c.loop-x-test.true)
@@ -25,7 +24,6 @@ loop-x-preserved c = (
   omega (arith, turn-of _ _ c.requires.0 c.loop-x-test.true),
   c.put_sums.ensures.sums_len,
   c.put_sums.ensures.has_sums_2,
-
 )
 
 pub returns : goal.returns

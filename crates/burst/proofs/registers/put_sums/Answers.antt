@@ -14,9 +14,8 @@ generator_sum-requires c = tt
 
 pub loop-j-preserved : goal.loop-j-preserved
 loop-j-preserved c =
-    let h = c.requires in
     rw c.index-at.ensures
-    (put-more c.loop-j.invariant c.loop-j-test.true h.0.1 h.0.2 c.generator_sum.ensures)
+    (put-more c.loop-j.invariant c.loop-j-test.true c.requires.k_bound.1 c.requires.k_bound.2 c.generator_sum.ensures)
 
 pub returns : goal.returns
 returns c = record { sums_len = c.loop-j.invariant.room; has_sums_2 = put_all c.loop-j.invariant c.loop-j-test.false }

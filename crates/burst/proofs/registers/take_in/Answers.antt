@@ -11,8 +11,7 @@ loop-j-init c = record { most = omega arith; coming_is = refl; syndromes_is = re
 
 pub loop-j-preserved : goal.loop-j-preserved
 loop-j-preserved c =
-    let h = c.requires in
-    taking-more c.loop-j.invariant c.loop-j-test.true h.0.1 h.1.0 h.1.1
+    taking-more c.loop-j.invariant c.loop-j-test.true c.requires.k_bound.1 c.requires.syndromes_len.0 c.requires.syndromes_len.1
     (c.index-at.ensures ∙ c.information.ensures.0) c.wide.ensures.0 c.put_in-register.ensures
 
 pub returns : goal.returns

@@ -19,7 +19,7 @@ returns-in-Accepted c =
     let accepted = ap outcome_of c.in-Accepted.is in
     let burst = c.send_under in
     by_card a.card.now read.result read.ensures (λ card. send_under card a.input.now a.output.now) a.output.now accepted
-    (outcome_is burst.result (send_under card a.input.now a.output.now) burst.type-inv (burst.ensures card.counts card.checks card.number (read.ensures.guaranteed accepted)))
+    (outcome_is burst.result (send_under card a.input.now a.output.now) burst.type_inv (burst.ensures card.counts card.checks card.number (read.ensures.guaranteed accepted)))
 
 pub returns-in-Refused : goal.returns-in-Refused
 unfolding send_of
@@ -27,4 +27,4 @@ returns-in-Refused c =
     let a = c.args in
     let read = c.read_card-read in
     refused-by_card a.card.now read.result read.ensures (λ card. send_under card a.input.now a.output.now) a.output.now (ap outcome_of c.in-Refused.is)
-    (answer-is c.refused.result c.refused.type-inv c.refused.ensures)
+    (answer-is c.refused.result c.refused.type_inv c.refused.ensures)

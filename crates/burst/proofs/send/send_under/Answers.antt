@@ -13,18 +13,18 @@ use Rattle.burst.proofs.send.send_under.Goals as goal
 pub returns-then-count-gt-MOST_FRAMES : goal.returns-then-count-gt-MOST_FRAMES
 returns-then-count-gt-MOST_FRAMES c = λ counts checks number G.
     let a = c.args in
-    refused-is 15 a.output.now (answer-is c.refused.result c.refused.type-inv c.refused.ensures) ∙ sym (under-full _ a.input.now a.output.now c.if-count-gt-MOST_FRAMES.true)
+    refused-is 15 a.output.now (answer-is c.refused.result c.refused.type_inv c.refused.ensures) ∙ sym (under-full _ a.input.now a.output.now c.if-count-gt-MOST_FRAMES.true)
 
 pub returns-then-output-count : goal.returns-then-output-count
 returns-then-output-count c = λ counts checks number G.
     let a = c.args in
-    refused-is 13 a.output.now (answer-is c.refused-then-output-count.result c.refused-then-output-count.type-inv c.refused-then-output-count.ensures)
+    refused-is 13 a.output.now (answer-is c.refused-then-output-count.result c.refused-then-output-count.type_inv c.refused-then-output-count.ensures)
     ∙ sym (under-short _ a.input.now a.output.now c.if-count-gt-MOST_FRAMES.false c.if-output-count.true)
 
 pub returns-then-any_beyond : goal.returns-then-any_beyond
 returns-then-any_beyond c = λ counts checks number G.
     let a = c.args in
-    refused-is 11 a.output.now (answer-is c.refused-then-any_beyond.result c.refused-then-any_beyond.type-inv c.refused-then-any_beyond.ensures)
+    refused-is 11 a.output.now (answer-is c.refused-then-any_beyond.result c.refused-then-any_beyond.type_inv c.refused-then-any_beyond.ensures)
     ∙ sym
     (under-beyond _ a.input.now a.output.now c.if-count-gt-MOST_FRAMES.false c.if-output-count.false
     (sym c.any_beyond.ensures ∙ c.if-any_beyond.true))
@@ -34,5 +34,5 @@ returns c = λ counts checks number G.
     let a = c.args in
     let card = card_from number a.generators.now counts checks a.k a.p a.m in
     given_is (length a.input.now + a.m) (sent card a.input.now) a.output.now (sent-length card a.input.now)
-    (counted_is c.counted.result c.counted.type-inv c.counted.ensures (omega arith)) (c.send_frames.ensures counts checks number G)
+    (counted_is c.counted.result c.counted.type_inv c.counted.ensures (omega arith)) (c.send_frames.ensures counts checks number G)
     ∙ sym (under-sent card a.input.now a.output.now c.if-count-gt-MOST_FRAMES.false c.if-output-count.false (sym c.any_beyond.ensures ∙ c.if-any_beyond.false))

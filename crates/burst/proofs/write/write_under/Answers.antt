@@ -13,10 +13,10 @@ pub answered-requires : goal.answered-requires
 unfolding write_under
 answered-requires c = λ n e.
     let answer = c.write_card in
-    let told = ap (λ (z : ℤ). outcome z answer.new.1.0) (sym e) in
-    omega (arith, c.requires, count_is (written c.args.card) c.args.output.now (told ∙ answer.ensures.0))
+    let told = ap (λ (z : ℤ). outcome z answer.new.output) (sym e) in
+    omega (arith, c.requires, count_is (written c.args.card) c.args.output.now (told ∙ answer.ensures.output_after))
 
 pub returns : goal.returns
 returns c =
     let answer = c.write_card in
-    ap (λ (z : ℤ). outcome z answer.new.1.0) (answer-is c.answered.result c.answered.type-inv c.answered.ensures) ∙ answer.ensures.0
+    ap (λ (z : ℤ). outcome z answer.new.output) (answer-is c.answered.result c.answered.type_inv c.answered.ensures) ∙ answer.ensures.output_after
