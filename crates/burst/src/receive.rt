@@ -79,8 +79,7 @@ fn receive_under<'a>(
 
 // Receives a whole burst: the count of frames handed out, or minus the refusal. Only that many bytes of the output are written, and a refused
 // call writes none.
-#[unsafe(no_mangle)]
-pub extern "C" fn burst_receive(card: &[u8], input: &[u8], output: &mut [u8]) -> i32
+pub fn burst_receive(card: &[u8], input: &[u8], output: &mut [u8]) -> i32
     ensures output_after { outcome result output.new ≡ receive_of card.now input.now output.old }
     ensures comes_out_as_sent { ComesOutAsSent card.now input.now output.old result output.new }
 {

@@ -128,8 +128,7 @@ fn send_under(
 
 // Sends a whole burst: the count of output frames, information and tail, or minus the refusal. Only that many bytes of the output are written,
 // and a refused call writes none.
-#[unsafe(no_mangle)]
-pub extern "C" fn burst_send(card: &[u8], input: &[u8], output: &mut [u8]) -> i32
+pub fn burst_send(card: &[u8], input: &[u8], output: &mut [u8]) -> i32
     ensures { outcome result output.new ≡ send_of card.now input.now output.old }
 {
     let read = card::read_card(CardRule::Present, card);

@@ -22,8 +22,7 @@ fn write_under(card: Card, output: &mut [u8]) -> i32
 
 // Writes the card that the bytes state: the count of bytes, or minus the refusal. Only that many bytes of the output are written, and a refused
 // call writes none.
-#[unsafe(no_mangle)]
-pub extern "C" fn card_write(card: &[u8], output: &mut [u8]) -> i32
+pub fn card_write(card: &[u8], output: &mut [u8]) -> i32
     ensures output_after { outcome result output.new ≡ write_of card.now output.old }
     ensures carries_on { CarriesOn card.now output.old result output.new }
 {
@@ -37,8 +36,7 @@ pub extern "C" fn card_write(card: &[u8], output: &mut [u8]) -> i32
 
 // Writes the standard card with this many checks: the count of bytes, 0 where there is no such card, or minus 13 where the output is too short.
 // Only that many bytes of the output are written, and a refused call writes none.
-#[unsafe(no_mangle)]
-pub extern "C" fn standard_card(checks: u32, output: &mut [u8]) -> i32
+pub fn standard_card(checks: u32, output: &mut [u8]) -> i32
     ensures output_after { outcome result output.new ≡ standard_of checks output.old }
     ensures standard_cards { StandardCards }
 {

@@ -62,8 +62,7 @@ fn receive_on(session: Session, input: &[u8], output: &mut [u8]) -> i32
 
 // Opens a session and calls it for each frame: the count of frames handed out, or minus the refusal. A call that is refused hands nothing out,
 // and the run goes on. Only so many bytes of the output are written.
-#[unsafe(no_mangle)]
-pub extern "C" fn session_receive(card: &[u8], input: &[u8], output: &mut [u8]) -> i32
+pub fn session_receive(card: &[u8], input: &[u8], output: &mut [u8]) -> i32
     ensures { outcome result output.new ≡ session_receive_of card.now input.now output.old }
 {
     let opened = decoder::open(card);
