@@ -16,7 +16,7 @@ counted_lines-requires c =
     let first = c.card_line-after_card in (
       c.requires.0.k_most,
       c.requires.1,
-      omega (arith, c.requires.1, c.requires.2, first.ensures.end_is, first.auto.0, card-room c.args.card c.requires.0),
+      omega (arith, c.requires.1, c.requires.2, first.ensures.end_is, first.auto.output, card-room c.args.card c.requires.0),
     )
 
 pub returns : goal.returns

@@ -17,14 +17,14 @@ overflow_cast-result c =
     let a = c.args in
     let burst = c.burst_receive in
     let d = decoded (read_card a.card.now).card a.frames.now in
-    let count = answer-count a.card.now a.frames.now a.buffer.now c.requires burst.ensures.0 in
+    let count = answer-count a.card.now a.frames.now a.buffer.now c.requires burst.ensures.output_after in
     let most = count_most a.card.now a.frames.now a.buffer.now c.requires in
-    let e : to_z w32 (of_z w32 burst.result) ≡ pos (length d) = answer-is burst.result burst.type-inv count in
+    let e : to_z w32 (of_z w32 burst.result) ≡ pos (length d) = answer-is burst.result burst.type_inv count in
     subst (λ (z : ℤ). T (non_neg z) × Fits w64 (nat_abs z)) (sym e) (tt, record { fits = omega (arith, most) })
 
 pub returns : goal.returns
 returns c =
     let a = c.args in
     let burst = c.burst_receive in
-    let count = answer-count a.card.now a.frames.now a.buffer.now c.requires burst.ensures.0 in
-    hands_out a.card.now a.frames.now a.buffer.now c.requires burst.ensures.0 (ap nat_abs (answer-is burst.result burst.type-inv count))
+    let count = answer-count a.card.now a.frames.now a.buffer.now c.requires burst.ensures.output_after in
+    hands_out a.card.now a.frames.now a.buffer.now c.requires burst.ensures.output_after (ap nat_abs (answer-is burst.result burst.type_inv count))

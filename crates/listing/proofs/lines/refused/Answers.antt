@@ -17,7 +17,7 @@ pub returns : goal.returns
 returns c =
     let published = c.refusal_number in
     let size = c.size in
-    let fits : size.result < 1000 = omega (arith, size.ensures, published.type-inv) in
+    let fits : size.result < 1000 = omega (arith, size.ensures, published.type_inv) in
     let wrote = c.refused_line.ensures in
     record {
       wrote = wrote_as (ap (λ (n : ℕ). refused_line n c.args.place) (size.ensures.0 ∙ published.ensures)) wrote;

@@ -10,8 +10,8 @@ use Rattle.listing.proofs.rewriting.write_anew.Goals as goal
 pub returns-in-Count : goal.returns-in-Count
 returns-in-Count c =
     let written = c.write_card-answer in
-    ap (λ (x : CardWritten). outcome (answer_of x) written.new.1.0) (sym c.in-Count.is)
-    ∙ written.ensures.0
+    ap (λ (x : CardWritten). outcome (answer_of x) written.new.output) (sym c.in-Count.is)
+    ∙ written.ensures.output_after
     ∙ write-given c.args.card c.args.output.now (omega (arith, c.requires))
 
 pub returns-in-Refused : goal.returns-in-Refused
@@ -19,4 +19,4 @@ returns-in-Refused c =
     let written = c.write_card-answer in
     absurd
     (never-refused c.args.card c.args.output.now c.in-Refused.field-0 (omega (arith, c.requires))
-    (ap (λ (x : CardWritten). outcome (answer_of x) written.new.1.0) (sym c.in-Refused.is) ∙ written.ensures.0))
+    (ap (λ (x : CardWritten). outcome (answer_of x) written.new.output) (sym c.in-Refused.is) ∙ written.ensures.output_after))

@@ -28,7 +28,7 @@ returns-in-Accepted c =
     let a = c.args in
     let opened = c.open-opened in
     let run = c.send_on in
-    outcome_is run.result (send_on opened.result.session a.input.now a.output.now) run.type-inv run.ensures
+    outcome_is run.result (send_on opened.result.session a.input.now a.output.now) run.type_inv run.ensures
     ∙ ap (λ (s : Session). send_on s a.input.now a.output.now) opened.ensures.session_is
     ∙ under-accepted _ a.output.now (sym opened.ensures.verdict_is ∙ ap outcome_of c.in-Accepted.is)
 
