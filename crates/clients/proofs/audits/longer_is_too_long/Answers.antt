@@ -1,0 +1,6 @@
+use Rattle.clients.proofs.AuditClauses.{told-long, front-enough}
+use borrow.Author.Rules.{rules}
+use Rattle.clients.proofs.audits.longer_is_too_long.Goals as goal
+
+pub returns : goal.returns
+returns c = let promise = c.audit.ensures in record { output_after = told-long promise (search rules); by_index = front-enough promise (search rules) }

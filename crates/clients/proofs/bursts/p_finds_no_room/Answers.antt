@@ -1,0 +1,12 @@
+use mathlib.Core.Path.{refl, ap, ◌∙◌}
+use lib.IntN.{ℤ}
+use borrow.Author.Rules.{rules}
+use Rattle.outcomes.specs.Outcome.{outcome}
+use Rattle.outcomes.proofs.Answers.{answer-is}
+use Rattle.clients.proofs.BurstClauses.{finds-no_room}
+use Rattle.clients.proofs.bursts.p_finds_no_room.Goals as goal
+
+pub returns : goal.returns
+returns c =
+    let burst = c.burst_receive in
+    ap (λ (z : ℤ). outcome z burst.new.input.1.0) (answer-is burst.result burst.type_inv refl) ∙ burst.ensures.output_after ∙ finds-no_room _ (search rules)

@@ -1,0 +1,10 @@
+use mathlib.Core.Path.{◌∙◌}
+use borrow.Author.Rules.{rules}
+use Rattle.outcomes.proofs.Answers.{outcome_is}
+use Rattle.clients.proofs.RunClauses.{finds-no_room}
+use Rattle.clients.proofs.runs.p_finds_no_room.Goals as goal
+
+pub returns : goal.returns
+returns c =
+    let run = c.session_receive in
+    outcome_is run.result _ run.type_inv (run.ensures ∙ finds-no_room _ (search rules))

@@ -1,0 +1,10 @@
+use mathlib.Core.Path.{◌∙◌}
+use borrow.Author.Rules.{rules}
+use Rattle.outcomes.proofs.Answers.{outcome_is}
+use Rattle.clients.proofs.StandardClauses.{two-given}
+use Rattle.clients.proofs.standards.two_checks.Goals as goal
+
+pub returns : goal.returns
+returns c =
+    let written = c.standard_card in
+    outcome_is written.result _ written.type_inv written.ensures.output_after ∙ two-given written.ensures.standard_cards _ (search rules)
