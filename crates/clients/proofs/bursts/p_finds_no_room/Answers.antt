@@ -9,4 +9,4 @@ use Rattle.clients.proofs.bursts.p_finds_no_room.Goals as goal
 pub returns : goal.returns
 returns c =
     let burst = c.burst_receive in
-    ap (λ (z : ℤ). outcome z burst.new.input.1.0) (answer-is burst.result burst.type_inv refl) ∙ burst.ensures.output_after ∙ finds-no_room _ (search rules)
+    ap (λ (z : ℤ). outcome z burst.new.output) (answer-is burst.result burst.type_inv refl) ∙ burst.ensures.output_after ∙ finds-no_room _ (search rules)

@@ -9,4 +9,4 @@ use Rattle.clients.proofs.bursts.p_sends.Goals as goal
 pub returns : goal.returns
 returns c =
     let burst = c.burst_send in
-    ap (λ (z : ℤ). outcome z burst.new.input.1.0) (answer-is burst.result burst.type_inv refl) ∙ burst.ensures ∙ sends _ (search rules)
+    ap (λ (z : ℤ). outcome z burst.new.output) (answer-is burst.result burst.type_inv refl) ∙ burst.ensures ∙ sends _ (search rules)

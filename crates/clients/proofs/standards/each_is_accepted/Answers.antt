@@ -8,17 +8,18 @@ use Rattle.writer.specs.declared.CardWritten.{CardWritten}
 use Rattle.standard.proofs.Answers.{count_most}
 use Rattle.clients.proofs.StandardClauses.{accepted-each, not-refused}
 use Rattle.clients.proofs.standards.each_is_accepted.Goals as goal
+use Rattle.clients.proofs.standards.each_is_accepted.Goals.{In-Count}
 
 pub slice_bounds-output-end : goal.slice_bounds-output-end
 slice_bounds-output-end c =
     let written = c.write_standard-written in
     let told = ap (λ (w : CardWritten). outcome (answer_of w) written.new.output) (sym c.in-Count.is) in
-    omega (arith, count_most c.args.checks _ written.ensures.standard_cards (told ∙ written.ensures.output_after), written.auto.output.0)
+    omega (arith, count_most c.args.checks _ written.ensures.standard_cards (told ∙ written.ensures.output_after), written.auto.output)
 
 pub slice_bounds-read_card-end : goal.slice_bounds-read_card-end
 slice_bounds-read_card-end c =
     let written = c.write_standard-written in
-    sym (length-take-le c.in-Count.count written.new.output (array-share-prefix-output c))
+    sym (length-take-le c.in-Count.count written.new.output (slice_bounds-output-end (goal.at.slice_bounds-read_card-end c).In-Count))
 
 pub returns-in-Count : goal.returns-in-Count
 returns-in-Count c = λ least most.

@@ -6,4 +6,8 @@ returns c =
     let read = c.read_card-read in
     let first = c.open-first in
     let second = c.open-second in
-    (first.ensures.verdict_is, (second.ensures.verdict_is, opened _ read.result read.ensures first.result first.ensures second.result second.ensures))
+    record {
+      verdict_value = first.ensures.verdict_is;
+      verdict_value_2 = second.ensures.verdict_is;
+      opened = opened _ read.result read.ensures first.result first.ensures second.result second.ensures;
+    }
