@@ -27,7 +27,7 @@ use Rattle.majority.specs.Rule.{cleared, corrected}
 use Rattle.majority.specs.Rule as Rule
 use Rattle.majority.specs.Plain.{decide_frame, decided}
 use Rattle.vote.specs.Voting.{decide_by_all}
-use Rattle.vote.specs.Voters.{all_voting, decideVoters}
+use Rattle.vote.specs.Voters.{all_voting, decide_voters}
 use Rattle.vote.proofs.Voting.{decide-lt, decide-all-lt, decide-wider, decide-all-is}
 use Rattle.vote.proofs.WhoVotes.{all-decide}
 use Rattle.majority.proofs.Plain.{decided-length, decided-at}
@@ -37,7 +37,7 @@ use Rattle.burst.specs.Held.{syndrome_held, Before, With}
 use Rattle.burst.proofs.Following.{sums-bit}
 
 -- four streams at most are decided
-pub decided-small : (words checks syndromes : List ℕ) (k p : ℕ) {errors : ℕ} → errors ≡ decideVoters words checks syndromes k p → errors < 16
+pub decided-small : (words checks syndromes : List ℕ) (k p : ℕ) {errors : ℕ} → errors ≡ decide_voters words checks syndromes k p → errors < 16
 decided-small words checks syndromes k p e = rw e (decide-lt _ _ checks syndromes k p)
 
 -- the errors decided by all checks have a digit for each stream
@@ -46,7 +46,7 @@ all-lt counts checks syndromes k p h = let e : min k 4 ≡ k = omega arith in rw
 
 -- the vote of all checks, on all eight registers, of which those from the p-th on have no 1
 pub voted-errors : (counts checks syndromes : List ℕ) (k p : ℕ) {errors : ℕ} → p ≤ 8 → length syndromes ≡ 8 → NoneFrom p syndromes
-    → errors ≡ decideVoters (all_voting counts k) checks syndromes k 8 → check_words ≤ length checks → errors ≡ decide_by_all counts checks syndromes k p
+    → errors ≡ decide_voters (all_voting counts k) checks syndromes k 8 → check_words ≤ length checks → errors ≡ decide_by_all counts checks syndromes k p
 voted-errors counts checks syndromes k p most wide none is long =
     is ∙ all-decide counts checks syndromes k 8 long (omega arith) ∙ decide-wider counts checks syndromes k p most none
 
@@ -117,10 +117,10 @@ module _ (c : Card) (G : Guarantees c) (frames : List ℕ) (t : ℕ) (r : Regist
         ∙ sym (back_in (λ v. cleared c frames (decided c frames (suc t - c.m)) v j) (suc t) (c.m - a) (omega arith))
 
     -- and the registers are ready for the next frame
-    pub fed-back : Before c frames (suc t) (registers r.coming after)
-    fed-back =
+    pub fed_back_first : Before c frames (suc t) (registers r.coming after)
+    fed_back_first =
         record {
-          coming-at = λ j a hj. W.coming-at j a hj;
+          coming_held = λ j a hj. W.coming_held j a hj;
           held_at = λ j a hj.
               fed-bit j (suc a) hj
               ∙ ⊎_elim

@@ -58,12 +58,12 @@ module _ (c : Card) (G : Guarantees c) (sums : List ℕ) (S : HasSums c.generato
   parity-bit : (j a : ℕ) → j < c.p → bit (parity_with sums r.coming c.k f j) a ≡ coming_with c frames t j a
   unfolding parity_with
   parity-bit j a hj =
-      register-with c G frames t f j hj (get_or r.coming j 0) _ hf (S (f % 2 ^ c.k) j (mod-lt f (pow_pos c.k)) hj) (λ b. B.coming-at j b hj) a
+      register-with c G frames t f j hj (get_or r.coming j 0) _ hf (S (f % 2 ^ c.k) j (mod-lt f (pow_pos c.k)) hj) (λ b. B.coming_held j b hj) a
 
   coming-bit : (j a : ℕ) → j < c.p → bit (coming_next sums r.coming c.k f j) a ≡ coming_at c frames (suc t) j a
   unfolding coming_next parity_with
   coming-bit j a hj =
-      register-next c G frames t f j hj (get_or r.coming j 0) _ hf (S (f % 2 ^ c.k) j (mod-lt f (pow_pos c.k)) hj) (λ b. B.coming-at j b hj) a
+      register-next c G frames t f j hj (get_or r.coming j 0) _ hf (S (f % 2 ^ c.k) j (mod-lt f (pow_pos c.k)) hj) (λ b. B.coming_held j b hj) a
 
   -- the syndrome of the frame
   syndrome-is : (j : ℕ) → j < c.p
@@ -108,6 +108,6 @@ module _ (c : Card) (G : Guarantees c) (sums : List ℕ) (S : HasSums c.generato
   pub taken_in : {after : Registers} {held : ℕ} → TakenIn sums c.k c.p c.m f r after held → With c frames t after
   taken_in T =
       record {
-        coming-at = λ j a hj. ap (λ l. bit (get_or l j 0) a) T.coming_is ∙ ap (λ x. bit x a) (part_at _ r.coming c.p j hj) ∙ coming-bit j a hj;
+        coming_held = λ j a hj. ap (λ l. bit (get_or l j 0) a) T.coming_is ∙ ap (λ x. bit x a) (part_at _ r.coming c.p j hj) ∙ coming-bit j a hj;
         held_at = λ j a hj. ap (λ l. bit (get_or l j 0) a) T.syndromes_is ∙ ap (λ x. bit x a) (part_at _ r.syndromes c.p j hj) ∙ held-bit j a hj;
       }

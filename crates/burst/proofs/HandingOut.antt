@@ -16,7 +16,7 @@ use Rattle.burst.specs.Registers.{Registers, registers, HasSums, TakenIn, taken_
 use Rattle.burst.specs.Held.{Before, With, Tables, card_with, Carried, Handing, HandedOut, AllHandedOut}
 use Rattle.burst.proofs.Following.{taken_in}
 use Rattle.burst.proofs.Waiting.{start}
-use Rattle.burst.proofs.Deciding.{fed-back, handed_out}
+use Rattle.burst.proofs.Deciding.{fed_back_first, handed_out}
 
 -- no register that was written has a 1
 pub none_written : {sums : List ℕ} {k p m f held : ℕ} {before after : Registers} → TakenIn sums k p m f before after held
@@ -51,7 +51,7 @@ module _ (c : Card) (G : Guarantees c) (sums : List ℕ) (S : HasSums c.generato
       let f = corrected c frames (decided c frames (length frames - m)) in
       let e : t - m ≡ u = omega arith in
       let n : suc (u + m) ≡ u + 1 + m = omega arith in (
-        subst (λ x. Before c frames x (registers taken.coming after)) n (fed-back c G frames t taken W (omega arith) sums S after errors C),
+        subst (λ x. Before c frames x (registers taken.coming after)) n (fed_back_first c G frames t taken W (omega arith) sums S after errors C),
         part_step f output₀ u output v (omega arith) handing.1
             (q ∙ rw e at (handed_out c G frames t taken W (omega arith) sums S after errors C (length frames - m) (omega arith))),
       )

@@ -40,7 +40,7 @@ frame_is c one frames t {f} {parity} hf hp =
 module _ (c : Card) (G : Guarantees c) (one : c.p ≡ 1) (input output₀ : List ℕ) where
   pub sent-start : SentSoFar c input output₀ 0 0 output₀
   unfolding up_to
-  sent-start = record { coming-at = λ a. bit-of-zero a ∙ sym (coming-start c (with_tail c input) 0 a); output_is = refl }
+  sent-start = record { coming_held = λ a. bit-of-zero a ∙ sym (coming-start c (with_tail c input) 0 a); output_is = refl }
 
   -- the frame that is sent for the information frame f
   pub information-turn : {t f sum coming x : ℕ} {output : List ℕ} → t < length output → f ≡ get_or input t 0
@@ -51,9 +51,9 @@ module _ (c : Card) (G : Guarantees c) (one : c.p ≡ 1) (input output₀ : List
       let frames = with_tail c input in
       let now : f ≡ get_or frames t 0 = hf ∙ sym (zeros-after input c.m t) in
       record {
-        coming-at = rw add-one (register-next c G frames t f 0 G.p_least coming sum now hs S.coming-at);
+        coming_held = rw add-one (register-next c G frames t f 0 G.p_least coming sum now hs S.coming_held);
         output_is = part_step (sent_frame c frames) output₀ t output x (within c input output₀ S.output_is l) S.output_is
-            (hx ∙ frame_is c one frames t now (register-parity c G frames t f 0 G.p_least coming sum now hs S.coming-at));
+            (hx ∙ frame_is c one frames t now (register-parity c G frames t f 0 G.p_least coming sum now hs S.coming_held));
       }
 
   -- the tail's: no information, and nothing is added to the parity to come

@@ -39,7 +39,7 @@ later c frames t j a h l =
 pub start : (c : Card) (frames : List ℕ) → Before c frames 0 (registers (replicate 8 0) (replicate 8 0))
 start c frames =
     record {
-      coming-at = λ j a hj. none j a ∙ sym (coming-start c frames j a);
+      coming_held = λ j a hj. none j a ∙ sym (coming-start c frames j a);
       held_at = λ j a hj.
           none j (suc a)
           ∙ ⊎_elim (λ (l : c.m ≤ a). sym (ap (λ b. cond b (syndrome_held c frames 0 j a) 0) (le-ltb a c.m l)))
@@ -52,7 +52,7 @@ start c frames =
 pub waiting : (c : Card) (frames : List ℕ) (t : ℕ) {r : Registers} → t < c.m → With c frames t r → Before c frames (suc t) r
 waiting c frames t h W =
     record {
-      coming-at = λ j a hj. W.coming-at j a hj;
+      coming_held = λ j a hj. W.coming_held j a hj;
       held_at = λ j a hj.
           W.held_at j (suc a) hj
           ∙ ⊎_elim

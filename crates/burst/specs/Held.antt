@@ -22,12 +22,12 @@ syndrome_held c frames t j a = back (λ v. cleared c frames (decided c frames (t
 
 -- the registers before the frame of time t: syndromes at places 1 to m, that of time t - 1 at m
 pub record Before (c : Card) (frames : List ℕ) (t : ℕ) (r : Registers) : Type 0 where
-  pub coming-at : (j a : ℕ) → j < c.p → bit (get_or r.coming j 0) a ≡ coming_at c frames t j a
+  pub coming_held : (j a : ℕ) → j < c.p → bit (get_or r.coming j 0) a ≡ coming_at c frames t j a
   pub held_at : (j a : ℕ) → j < c.p → bit (get_or r.syndromes j 0) (suc a) ≡ cond (ltb a c.m) (syndrome_held c frames t j a) 0
 
 -- the registers with the frame of time t: syndromes at places 0 to m, that of time t at m
 pub record With (c : Card) (frames : List ℕ) (t : ℕ) (r : Registers) : Type 0 where
-  pub coming-at : (j a : ℕ) → j < c.p → bit (get_or r.coming j 0) a ≡ coming_at c frames (suc t) j a
+  pub coming_held : (j a : ℕ) → j < c.p → bit (get_or r.coming j 0) a ≡ coming_at c frames (suc t) j a
   pub held_at : (j a : ℕ) → j < c.p → bit (get_or r.syndromes j 0) a ≡ cond (leb a c.m) (syndrome_held c frames t j a) 0
 
 -- ---- what the loops promise, for every card with the tables that they are given

@@ -12,7 +12,7 @@ use Rattle.burst.specs.Held.{coming_at}
 
 -- one parity stream, before the frame of time t: the register has the parity digits to come, and the output the frames before t
 pub record SentSoFar (c : Card) (input output₀ : List ℕ) (t coming : ℕ) (output : List ℕ) : Type 0 where
-  pub coming-at : (a : ℕ) → bit coming a ≡ coming_at c (with_tail c input) t 0 a
+  pub coming_held : (a : ℕ) → bit coming a ≡ coming_at c (with_tail c input) t 0 a
   pub output_is : output ≡ up_to t (sent_frame c (with_tail c input)) ++ drop t output₀
 
 -- every accepted card of one parity stream whose generators have these sums has the property, whatever its memory

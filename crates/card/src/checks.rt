@@ -33,7 +33,7 @@ pub(crate) fn read_checks(
 ) -> PartRead
     requires start_in_bounds { (start ≤ length bytes.now) × ((sizes.k ≤ 4) × ((sizes.k + sizes.p ≤ 8) × ((sizes.p ≤ 7) × (sizes.m < 32)))) }
     requires counts_value { (counts.old ≡ replicate 4 0) × (checks.old ≡ replicate check_words 0) }
-    ensures { read_by result.verdict (record { counts = counts.exit.now; checks = checks.new }) result.at
+    ensures { read_by result.verdict (record { counts = counts.new; checks = checks.new }) result.at
         ≡ read_mapped (tables_with 0 (replicate 4 0) (replicate check_words 0))
         (read_streams bytes.now (code_by sizes generators.now) sizes.k 0 start) }
 {

@@ -26,7 +26,7 @@ use Rattle.majority.specs.Rule.{syndrome, cleared, decide_frame, decided, correc
 use Rattle.majority.proofs.Streams.{decided-length, decided-at}
 use Rattle.majority.proofs.Feedback.{syndrome-lt, cleared-new, cleared-fed}
 use Rattle.receiving.specs.Receive.{place_of}
-use Rattle.vote.specs.Voters.{voters_by, decideVoters}
+use Rattle.vote.specs.Voters.{voters_by, decide_voters}
 use Rattle.code.proofs.ErasedDigits.{ErasedAt}
 use Rattle.vote.proofs.Voting.{decide-is}
 use Rattle.vote.proofs.WhoVotes.{voters-are, counts-are}
@@ -69,7 +69,7 @@ module _ (c : Card) (G : Guarantees c) (frames erased : List ℕ) (t u : ℕ) (h
   -- ---- the frame of time u is decided
   module _ (hm : c.m ≤ t) (y : List ℕ) (Y : SyndromesAt c frames erased u (suc t) y) where
     pub decide-next : (marks : List ℕ) (any : ℕ) → ErasedAt (c.k + c.p) erased u (suc t) marks any
-        → decideVoters (voters_by c.generators c.counts c.checks marks any c.k c.p) c.checks y c.k c.p
+        → decide_voters (voters_by c.generators c.counts c.checks marks any c.k c.p) c.checks y c.k c.p
         ≡ decide_frame c frames erased (decided c frames erased u) u
     decide-next marks any E =
         decide-is c G frames errors u y

@@ -12,7 +12,6 @@ use lib.Dec.{ltb}
 use Rattle.bits.specs.Sums.{sum_below}
 use Rattle.bits.proofs.Cases.{same_or_not}
 use Rattle.bits.proofs.Sums.{sum_same, sum-cong, sum-const}
-use Rattle.code.specs.Code.{digit}
 use Rattle.code.specs.Checks.{count, check_mask, touches, besides}
 use Rattle.code.specs.Guarantees.{Guarantees}
 use Rattle.code.specs.declared.Card.{Card}

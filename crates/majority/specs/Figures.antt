@@ -13,7 +13,7 @@ pub record FigureRows : Type 0 where
   pub later_frames : figure_by Wide (8 ∷ 16 ∷ 32 ∷ []) [] ≡ 2
   -- the digit of stream 1 is wrong, which makes four syndromes 1; once it is decided, feedback takes it out of all
   pub undecided : figure_by Wide (1 ∷ 0 ∷ []) [] ≡ 4
-  pub fed-back : figure_by Wide (1 ∷ 0 ∷ 0 ∷ []) [] ≡ 0
+  pub fed_back_first : figure_by Wide (1 ∷ 0 ∷ 0 ∷ []) [] ≡ 0
   -- what is fed back is what the checks that vote decide (`Erased`, parity_2_lost)
   pub fed_back_by_votes : figure_by Wide (0 ∷ 40 ∷ 32 ∷ []) (0 ∷ 16 ∷ 0 ∷ []) ≡ 1
   pub fed_back_by_all : figure_by Wide (0 ∷ 40 ∷ 32 ∷ []) [] ≡ 3

@@ -84,8 +84,8 @@ module _ (f : Fields) where
           k_in_range = (r.k_least, r.k_most);
           n_in_range = (r.n_least, r.n_most);
           m_in_range = r.m_most;
-          k-stands = head.0;
-          n-stands = head.1;
+          k_by_rule = head.0;
+          n_by_rule = head.1;
           generators_for_each = r.row_count;
           generators_in_range = λ i h. masks-at p m f.rows r.rows_in i (omega (arith, r.row_count));
           streams_for_each = r.stream_count;
@@ -109,22 +109,22 @@ module _ (f : Fields) where
         record {
           ranges =
               record {
-                k_stands_bit = stands-bit f.head.k_stands 1 f.head.k rule w.k-stands;
-                n_stands_bit = stands-bit f.head.n_stands 2 f.head.n rule w.n-stands;
+                k_stands_bit = stands-bit f.head.k_stands 1 f.head.k rule w.k_by_rule;
+                n_stands_bit = stands-bit f.head.n_stands 2 f.head.n rule w.n_by_rule;
                 number_most = w.number_is_a_byte;
                 k_least = w.k_in_range.0;
                 k_most = w.k_in_range.1;
-                k_default = stands-default f.head.k_stands 1 f.head.k rule w.k-stands;
+                k_default = stands-default f.head.k_stands 1 f.head.k rule w.k_by_rule;
                 n_least = w.n_in_range.0;
                 n_most = w.n_in_range.1;
-                n_default = stands-default f.head.n_stands 2 f.head.n rule w.n-stands;
+                n_default = stands-default f.head.n_stands 2 f.head.n rule w.n_by_rule;
                 m_most = w.m_in_range;
                 row_count = w.generators_for_each;
                 rows_in = masks-from p m f.rows (λ i h. w.generators_in_range i (omega (arith, w.generators_for_each)));
                 stream_count = w.streams_for_each;
                 streams_in = streams-from p m f.streams (λ i h. in-stream i (omega (arith, w.streams_for_each)));
               };
-          defaults = defaults-in f rule w.k-stands w.n-stands;
+          defaults = defaults-in f rule w.k_by_rule w.n_by_rule;
         }
 
 -- ---- orthogonality
@@ -171,8 +171,8 @@ module _ (rule : CardRule) {bytes : List ℕ} {f : Fields} where
               k_in_range = w.k_in_range;
               n_in_range = w.n_in_range;
               m_in_range = w.m_in_range;
-              k-stands = w.k-stands;
-              n-stands = w.n-stands;
+              k_by_rule = w.k_by_rule;
+              n_by_rule = w.n_by_rule;
               generators_for_each = w.generators_for_each;
               generators_in_range = w.generators_in_range;
               streams_for_each = w.streams_for_each;

@@ -101,6 +101,6 @@ module _ {S : Type 0} (x : Circuit S) (hands : Card → List ℕ → List ℕ �
         unchanged = following.unchanged x c G s B.card_kept B.counted;
         comes_out_as_sent = λ calls info none whole few.
             came-out calls info whole (few-of-checks c info (frames_taken read_now c calls) G (erased_taken read_now c calls) (none-erased (erased_taken read_now c calls) none) few);
-        comes-out-of-votes = λ calls info whole few. came-out calls info whole (few-of-votes c info (frames_taken read_now c calls) (erased_taken read_now c calls) few);
+        comes_out_of_votes = λ calls info whole few. came-out calls info whole (few-of-votes c info (frames_taken read_now c calls) (erased_taken read_now c calls) few);
         as_before = λ calls out. as_before c calls (answers x s calls) out (answered calls);
       }

@@ -236,7 +236,7 @@ pub record Receives {S : Type 0} (x : Circuit S) (c : Card) (s : S) : Type 0 whe
   pub comes_out_as_sent : (calls : List Call) (info : List ℕ) → let frames = frames_taken read_now c calls in
       ((u : ℕ) → get_or (erased_taken read_now c calls) u 0 ≡ 0) → WholeStream c info frames → FewWrong c info frames → frames_out (answers x s calls) ≡ info
   -- R-6's
-  pub comes-out-of-votes : (calls : List Call) (info : List ℕ) → let frames = frames_taken read_now c calls in
+  pub comes_out_of_votes : (calls : List Call) (info : List ℕ) → let frames = frames_taken read_now c calls in
       WholeStream c info frames → FewWrongOfVotes c info frames (erased_taken read_now c calls) → frames_out (answers x s calls) ≡ info
   -- R-7: "Sessions whose levels all lie outside the band decode as they did"
   pub as_before : (calls : List Call) → ((t : ℕ) → Outside (c.k + c.p) (get_or (taken_calls read_now c 0 calls) t (byte 0 0))) → ByTheRule read_before c calls (answers x s calls)
@@ -281,8 +281,8 @@ pub record WithinLimits (rule : CardRule) (most : ℕ) (h : Head) (generators : 
   pub k_in_range : (1 ≤ h.k) × (h.k ≤ 4)
   pub n_in_range : (h.k + 1 ≤ h.n) × (h.n ≤ 8)
   pub m_in_range : h.m ≤ 31
-  pub k-stands : Stands rule h.k_stands 1 h.k
-  pub n-stands : Stands rule h.n_stands 2 h.n
+  pub k_by_rule : Stands rule h.k_stands 1 h.k
+  pub n_by_rule : Stands rule h.n_stands 2 h.n
   pub generators_for_each : length generators ≡ h.k
   pub generators_in_range : (i : ℕ) → i < h.k → Masks (h.n - h.k) h.m (get_or generators i [])
   pub streams_for_each : length streams ≡ h.k

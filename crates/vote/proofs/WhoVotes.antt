@@ -30,7 +30,7 @@ use Rattle.orthogonal.proofs.Within.{clashes-within}
 use Rattle.majority.specs.Rule.{voting}
 use Rattle.majority.proofs.Plain.{every-votes}
 use Rattle.vote.specs.Voting.{check_by, all_by, ones_by, majority_by, decide_by, votes_by, decide_by_all}
-use Rattle.vote.specs.Voters.{all_voting, voting_by, stream_voters_by, voters_by, votersOf, decideVoters}
+use Rattle.vote.specs.Voters.{all_voting, voting_by, stream_voters_by, voters_by, voters_of, decide_voters}
 use Rattle.vote.proofs.Voting.{check-lt, whole, ones-count, error_of}
 use Rattle.code.proofs.ErasedDigits.{ErasedAt, none-erased, marks-held}
 
@@ -74,7 +74,7 @@ ones-of-all : (n : ℕ) → ones (from_digits n (λ q. 1)) ≡ n
 ones-of-all n = ones-made n (λ q. 1) (λ q l. omega arith) ∙ sum-const n 1 ∙ mul-one n
 
 -- the numbers of words that a function gives
-pub counts_of : (f : ℕ → ℕ) → record { words = up_to 4 f; counts = up_to 4 (λ i. ones (f i)) } ≡ votersOf (up_to 4 f)
+pub counts_of : (f : ℕ → ℕ) → record { words = up_to 4 f; counts = up_to 4 (λ i. ones (f i)) } ≡ voters_of (up_to 4 f)
 counts_of f =
     ap (λ (n : List ℕ). record { words = up_to 4 f; counts = n })
     (ext_get_or 0 _ _ (up_to-length 4 _ ∙ sym (up_to-length 4 _))
@@ -106,7 +106,7 @@ all-counts counts k =
 -- where all vote, the decision of stream i
 pub all-error : (counts checks syndromes : List ℕ) (k p i : ℕ) → i < min k 4 →
     let n = min (get_or counts i 0) most_checks in
-    majority_by n (ones (all_by checks i n syndromes p)) ≡ error_of (votersOf (all_voting counts k)).words (votersOf (all_voting counts k)).counts checks syndromes p i
+    majority_by n (ones (all_by checks i n syndromes p)) ≡ error_of (voters_of (all_voting counts k)).words (voters_of (all_voting counts k)).counts checks syndromes p i
 unfolding all_by
 all-error counts checks syndromes k p i l =
     let n = min (get_or counts i 0) most_checks in
@@ -120,7 +120,7 @@ all-error counts checks syndromes k p i l =
 
 -- a burst's vote is that of all checks
 pub all-decide : (counts checks syndromes : List ℕ) (k p : ℕ) → check_words ≤ length checks → 8 ≤ length syndromes
-    → decideVoters (all_voting counts k) checks syndromes k p ≡ decide_by_all counts checks syndromes k p
+    → decide_voters (all_voting counts k) checks syndromes k p ≡ decide_by_all counts checks syndromes k p
 unfolding decide_by decide_by_all
 all-decide counts checks syndromes k p long wide =
     whole checks syndromes _ long wide
@@ -210,5 +210,5 @@ module _ (c : Card) (G : Guarantees c) (erased : List ℕ) (u : ℕ) (y : List �
   -- and the counts how many they are
   pub counts-are : (i : ℕ) → i < c.k →
       let words = voters_by c.generators c.counts c.checks y any c.k c.p in
-      get_or (votersOf words).counts i 0 ≡ ones (get_or words i 0)
+      get_or (voters_of words).counts i 0 ≡ ones (get_or words i 0)
   counts-are i l = up_to-at 4 _ i (omega (arith, G.k_most))

@@ -1,7 +1,7 @@
 -- Which checks vote, on registers, for tables and registers of every value: bit b of erased register s is 1 if the digit of stream s at time u + b is erased,
 -- where the frame of time u is decided next. Nobody has to believe this file: `voters-are` in proofs/WhoVotes.antt ties it to the rule (`majority`, `Rule`).
 -- Assumes nothing.
-use Rattle.std.specs.Prelude.{ℕ, ◌+◌, ◌-◌, ◌*◌, ◌^◌, min, cond, List, ◌++◌, get_or, drop, replicate, eqb}
+use Rattle.std.specs.Prelude.{ℕ, ◌-◌, ◌*◌, ◌^◌, min, cond, List, ◌++◌, get_or, drop, replicate, eqb}
 use Rattle.std.specs.Int.Count.{ones}
 use Rattle.bits.specs.Sums.{up_to}
 use Rattle.bits.specs.Digits.{bit, from_digits}
@@ -31,14 +31,14 @@ voters_by generators counts checks erased any k p =
     cond (eqb any 0) (all_voting counts k) (up_to 4 (λ i. stream_voters_by generators checks erased k p i (get_or (all_voting counts k) i 0)))
 
 -- these words, and how many checks vote by each
-abbrev pub votersOf : List ℕ → Voters
-votersOf words = record { words = words; counts = up_to 4 (λ i. ones (get_or words i 0)) }
+abbrev pub voters_of : List ℕ → Voters
+voters_of words = record { words = words; counts = up_to 4 (λ i. ones (get_or words i 0)) }
 
 -- what they decide
-abbrev pub decideVoters : List ℕ → List ℕ → List ℕ → ℕ → ℕ → ℕ
-decideVoters words checks syndromes k p = decide_by (votersOf words).words (votersOf words).counts checks syndromes k p
+abbrev pub decide_voters : List ℕ → List ℕ → List ℕ → ℕ → ℕ → ℕ
+decide_voters words checks syndromes k p = decide_by (voters_of words).words (voters_of words).counts checks syndromes k p
 
 -- what those that erased digits leave decide
 unfoldable pub decide_marked : List ℕ → List ℕ → List ℕ → List ℕ → List ℕ → ℕ → Sizes → ℕ
 decide_marked generators counts checks syndromes erased any z =
-    decideVoters (voters_by generators counts checks erased any z.k z.p) checks syndromes z.k z.p
+    decide_voters (voters_by generators counts checks erased any z.k z.p) checks syndromes z.k z.p

@@ -9,7 +9,7 @@ pub mod voters;
 ghost use Rattle.std.specs.Prelude.{◌≡◌, cond, ◌+◌, ◌*◌, ◌<◌, ◌≤◌, ltb, length};
 ghost use Rattle.std.specs.Int.Bits.{bit_and};
 ghost use Rattle.code.specs.Limits.{most_checks, check_words};
-ghost use Rattle.vote.specs.Voters.{all_voting, decideVoters, decide_marked};
+ghost use Rattle.vote.specs.Voters.{all_voting, decide_voters, decide_marked};
 ghost use Rattle.vote.specs.Voting.{check_by, all_by, ones_by, stream_ones_by, decide_by};
 
 use code::{CHECK_STRIDE, CHECK_WORDS, MOST_CHECKS, Sizes};
@@ -84,7 +84,7 @@ pub fn more_than_half(count: usize, ones: u32) -> u32
 
 // The decided errors of a frame where all checks vote, as in a burst: what `decide` gives for them, without their words.
 pub fn decide_all(counts: &[u32], checks: &[u32], syndromes: &[u32], k: usize, p: usize) -> u32
-    ensures { result ≡ decideVoters (all_voting counts.now k) checks.now syndromes.now k p }
+    ensures { result ≡ decide_voters (all_voting counts.now k) checks.now syndromes.now k p }
 {
     if checks.len() < CHECK_WORDS {
         return 0;

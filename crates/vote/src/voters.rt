@@ -3,7 +3,7 @@
 // next.
 ghost use Rattle.std.specs.Prelude.{◌≡◌, ◌<◌, drop};
 ghost use Rattle.code.specs.Limits.{most_checks};
-ghost use Rattle.vote.specs.Voters.{voting_by, stream_voters_by, all_voting, voters_by, votersOf};
+ghost use Rattle.vote.specs.Voters.{voting_by, stream_voters_by, all_voting, voters_by, voters_of};
 
 use code::{CHECK_STRIDE, MOST_CHECKS};
 
@@ -16,7 +16,7 @@ pub struct Voters {
 
 // All checks of each stream. More streams or checks than the tables have are not looked at.
 pub fn all_voting(counts: &[u32], k: usize) -> Voters
-    ensures { result ≡ votersOf (all_voting counts.now k) }
+    ensures { result ≡ voters_of (all_voting counts.now k) }
 {
     let streams = bits::at_most(k, 4);
     let mut words = [0u32; 4];
@@ -100,7 +100,7 @@ pub fn voting<'a>(
     k: usize,
     p: usize,
 ) -> Voters
-    ensures { result ≡ votersOf (voters_by generators.now counts.now checks.now erased.now any k p) }
+    ensures { result ≡ voters_of (voters_by generators.now counts.now checks.now erased.now any k p) }
 {
     let all = all_voting(counts, k);
     if any == 0 {

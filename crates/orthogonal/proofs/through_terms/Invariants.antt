@@ -1,5 +1,5 @@
 -- The sum so far and the terms that are left make the whole (`Meeting`).
-use Prim.Native.Nat.{◌-◌, ◌^◌, ◌<◌}
+use Prim.Native.Nat.{◌^◌, ◌<◌}
 use Rattle.orthogonal.proofs.Meeting.{Kept}
 use Rattle.orthogonal.proofs.through_terms.Given as goal
 

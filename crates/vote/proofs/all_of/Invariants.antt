@@ -1,5 +1,5 @@
 -- The loop's word has the checks that it passed, the last ones, as its digits.
-use Prim.Native.Nat.{◌-◌, ◌≤◌}
+use Prim.Native.Nat.{◌≤◌}
 use mathlib.Core.Path.{◌≡◌}
 use Rattle.code.specs.Limits.{check_start}
 use Rattle.vote.specs.Voting.{check_by}

@@ -1,4 +1,4 @@
-use Prim.Native.Nat.{ℕ, ◌-◌}
+use Prim.Native.Nat.{ℕ}
 use mathlib.Core.Path.{refl, ap, ap₂, ◌∙◌}
 use mathlib.Core.List.{List}
 use native.Mathlib.Omega.{arith}
@@ -7,7 +7,7 @@ use lib.ListN.{get_or, length-set}
 use borrow.Author.Tests.{eq-eqb, ne_eqb}
 use Rattle.bits.specs.Sums.{up_to}
 use Rattle.bits.proofs.Lists.{fill_step, fill_end}
-use Rattle.vote.specs.Voters.{stream_voters_by, voters_by, votersOf}
+use Rattle.vote.specs.Voters.{stream_voters_by, voters_by, voters_of}
 use Rattle.vote.specs.declared.voters.Voters.{Voters}
 use Rattle.vote.proofs.WhoVotes.{counts_of}
 use Rattle.vote.proofs.voters.voting.Goals as goal
@@ -40,4 +40,4 @@ returns c =
     let some : List ℕ → ℕ → ℕ = λ all b. stream_voters_by a.generators.now a.checks.now a.erased.now a.k a.p b (get_or all b 0) in
     rw (ne_eqb _ 0 c.if-any-eq0.false)
     (ap₂ (λ (w n : List ℕ). record { words = w; counts = n }) (fill_end _ _ _ _ v.1 v.0 c.loop-i-test.false v.2) (fill_end _ _ _ _ v.3 v.0 c.loop-i-test.false v.4)
-    ∙ counts_of (some c.all_voting-all.result.words) ∙ ap (λ (all : List ℕ). votersOf (up_to 4 (some all))) every)
+    ∙ counts_of (some c.all_voting-all.result.words) ∙ ap (λ (all : List ℕ). voters_of (up_to 4 (some all))) every)
