@@ -3,10 +3,13 @@
 
 ghost use Rattle.std.specs.Prelude.{◌≤◌, length};
 
-use libc::{SEEK_CUR, SEEK_END, SEEK_SET, STDERR_FILENO, STDOUT_FILENO};
 use listing::auditing;
 use listing::auditing::{AUDIT_ROOM, Audited};
 use outcomes::MOST_CARD_BYTES;
+use std::env::FillError;
+use std::io::{Read, Seek, SeekFrom};
+use std::rt::{Env, Files};
+use std::{fs, str};
 
 // As much of a file as decides: one byte more than the longest that is read as a card (`by_the_front` in the promise of `audit`).
 const FRONT: usize = MOST_CARD_BYTES + 1;
@@ -19,27 +22,26 @@ struct Contents {
 }
 
 // Reads until the file ends or the buffer is full. A read that fails is no end.
-fn fill(fd: i32, buffer: &mut [u8]) -> Contents
+fn fill(file: &mut impl Read, buffer: &mut [u8]) -> Contents
     ensures { result.length ≤ length buffer.new }
 {
     let mut at = 0;
     while at < buffer.len() {
-        let rest = &mut buffer[at..];
-        let got = libc::read(fd, rest);
-        if got < 0 {
-            return Contents {
-                whole: false,
-                length: at,
-            };
+        match file.read(&mut buffer[at..]) {
+            Err(_) => {
+                return Contents {
+                    whole: false,
+                    length: at,
+                };
+            }
+            Ok(0) => {
+                return Contents {
+                    whole: true,
+                    length: at,
+                };
+            }
+            Ok(more) => at += more,
         }
-        let more = io::count(got, rest);
-        if more == 0 {
-            return Contents {
-                whole: true,
-                length: at,
-            };
-        }
-        at += more;
     }
     Contents {
         whole: true,
@@ -47,72 +49,94 @@ fn fill(fd: i32, buffer: &mut [u8]) -> Contents
     }
 }
 
+// Goes to a place of the file: how far from its start that is, if it can be asked for.
+fn place(file: &mut impl Seek, at: SeekFrom) -> Option<u64> {
+    file.seek(at).ok()
+}
+
 // Reads an open file. It has to end where it ended before the reading, and the reading there too unless the buffer is full: otherwise it was changed meanwhile,
-// and is not whole. Where a pipe ends can't be asked for: the answer is below 0, and tells nothing.
-fn read_open(fd: i32, buffer: &mut [u8]) -> Contents
+// and is not whole. Where a pipe ends can't be asked for: there is no answer, and that tells nothing.
+fn read_open(file: &mut (impl Read + Seek), buffer: &mut [u8]) -> Contents
     ensures { result.length ≤ length buffer.new }
 {
-    let before = libc::lseek(fd, 0, SEEK_END);
-    libc::lseek(fd, 0, SEEK_SET);
-    let read = fill(fd, buffer);
-    let here = libc::lseek(fd, 0, SEEK_CUR);
-    let after = libc::lseek(fd, 0, SEEK_END);
+    let before = place(file, SeekFrom::End(0));
+    place(file, SeekFrom::Start(0));
+    let read = fill(file, buffer);
+    let here = place(file, SeekFrom::Current(0));
+    let after = place(file, SeekFrom::End(0));
     let stayed = before == after && (here == after || read.length == buffer.len());
-    let steady = before < 0 || stayed;
+    let steady = before.is_none() || stayed;
     Contents {
         whole: read.whole && steady,
         length: read.length,
     }
 }
 
-// Reads the file whose name, of this size, stands at the front of the bytes.
-fn read_file(named: &[u8], size: usize, buffer: &mut [u8]) -> Contents
+// What was not read.
+fn not_read() -> Contents
+    ensures { result.length ≡ 0 }
+{
+    Contents {
+        whole: false,
+        length: 0,
+    }
+}
+
+// Reads the file whose name, of this size, stands at the front of the bytes. A name that is not UTF-8 can't be given to the library, and is not read.
+fn read_file(rt: &impl Files, named: &[u8], size: usize, buffer: &mut [u8]) -> Contents
     requires { size ≤ length named.now }
     ensures { result.length ≤ length buffer.new }
 {
-    let fd = os::open_read(&named[..size]);
-    if fd < 0 {
-        return Contents {
-            whole: false,
-            length: 0,
-        };
+    let Ok(name) = str::from_utf8(&named[..size]) else {
+        return not_read();
+    };
+    match fs::open(rt, name) {
+        Ok(mut file) => read_open(&mut file, buffer),
+        Err(_) => not_read(),
     }
-    let read = read_open(fd, buffer);
-    libc::close(fd);
-    read
+}
+
+// How many arguments there are, the program's own name among them.
+fn argument_count(rt: &impl Env) -> usize {
+    for i in 0..usize::MAX {
+        if let Err(FillError::NotPresent) = rt.arg(i, &mut []) {
+            return i;
+        }
+    }
+    usize::MAX
 }
 
 // What becomes of the file that an argument names: its line is at the front of the output.
-fn audit_argument(i: usize, output: &mut [u8; AUDIT_ROOM]) -> Audited
+fn audit_argument(rt: &(impl Env + Files), i: usize, output: &mut [u8; AUDIT_ROOM]) -> Audited
     ensures { (result.count ≤ length output.new) × (result.passed ≤ 1) }
 {
-    let size = os::arg(i, output);
+    let size = rt.arg(i, output).unwrap_or(0);
     let mut buffer = [0u8; FRONT];
-    let read = read_file(output, size, &mut buffer);
+    let read = read_file(rt, output, size, &mut buffer);
     let length = read.length;
     auditing::audit(read.whole, &buffer[..length], output, size)
 }
 
-// What became of the lines. A program has no exit status, so standard error alone can tell that they are not whole.
-fn written(whole: bool) {
+// What became of the lines. The program's status does not tell, so standard error alone can tell that they are not whole.
+fn written(rt: &impl Eprint, whole: bool) {
     if !whole {
-        io::write_all(STDERR_FILENO, b"audit: the lines could not be written\n");
+        let _ = rt.eprint("audit: the lines could not be written\n");
     }
 }
 
-fn main() {
+fn main(rt: HostRuntime) {
     let mut output = [0u8; AUDIT_ROOM];
     let mut whole = true;
     let mut passed = 0;
-    let arguments = os::arg_count();
+    let arguments = argument_count(&rt);
     let mut i = 1; // the first is the program's own name
     while i < arguments {
-        let audited = audit_argument(i, &mut output);
+        let audited = audit_argument(&rt, i, &mut output);
         let count = audited.count;
-        whole = io::write_all(STDOUT_FILENO, &output[..count]) && whole;
+        whole = rt.write_all(&output[..count]).is_ok() && whole;
         passed += audited.passed;
         i += 1;
     }
     let count = auditing::end(&mut output, passed);
-    written(io::write_all(STDOUT_FILENO, &output[..count]) && whole);
+    written(&rt, rt.write_all(&output[..count]).is_ok() && whole);
 }
