@@ -5,19 +5,36 @@
 mod lines;
 mod records;
 
+ghost use Rattle.std.specs.Prelude.{◌≤◌, length};
+
 use card::Verdict;
 use outcomes::{MOST_CARD_BYTES, stated_length};
+use std::io::Read;
 
 // The longest input, and one byte to tell that there is more.
 const ROOM: usize = 65537;
 
+// Reads until the input ends or the buffer is full: the count of bytes, which stand at the buffer's front. A read that fails counts as the end.
+fn read_full(input: &mut impl Read, buffer: &mut [u8]) -> usize
+    ensures { result ≤ length buffer.new }
+{
+    let mut at = 0;
+    while at < buffer.len() {
+        match input.read(&mut buffer[at..]) {
+            Ok(more) if 0 < more => at += more,
+            _ => return at,
+        }
+    }
+    at
+}
+
 // Opens the sessions with the card, and goes through the records after it.
-fn trace(input: &[u8]) {
+fn trace(rt: &(impl Print + Eprint), input: &[u8]) {
     let start = bits::at_most(2, input.len());
     let rest = &input[start..];
     let stated = stated_length(input);
     if MOST_CARD_BYTES < stated {
-        lines::too_long();
+        lines::too_long(rt);
         return;
     }
     let length = bits::at_most(stated, rest.len());
@@ -25,12 +42,13 @@ fn trace(input: &[u8]) {
     let first = decoder::open(card);
     let verdict = first.verdict;
     match verdict {
-        Verdict::Refused { refusal, offset } => lines::refused_card(refusal, offset),
+        Verdict::Refused { refusal, offset } => lines::refused_card(rt, refusal, offset),
         Verdict::Accepted => {
-            lines::text(b"open\n");
+            lines::text(rt, b"open\n");
             let second = digit_decoder::open(card);
             let sender = encoder::open(card);
             records::all(
+                rt,
                 &rest[length..],
                 first.session,
                 second.session,
@@ -40,12 +58,12 @@ fn trace(input: &[u8]) {
     }
 }
 
-fn main() {
+fn main(rt: HostRuntime) {
     let mut space = [0u8; ROOM];
-    let length = io::read_full(libc::STDIN_FILENO, &mut space);
+    let length = read_full(&mut rt.stdin(), &mut space);
     if ROOM <= length {
-        lines::too_long();
+        lines::too_long(&rt);
         return;
     }
-    trace(&space[..length]);
+    trace(&rt, &space[..length]);
 }

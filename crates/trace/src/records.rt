@@ -87,70 +87,84 @@ struct Sessions {
     selected: u8, // the receiving session that gets the frames: 0 the first, 1 the second
 }
 
-fn received_by_first(mut s: Sessions, received: decoder::Received) -> Sessions {
+fn received_by_first(
+    rt: &(impl Print + Eprint),
+    mut s: Sessions,
+    received: decoder::Received,
+) -> Sessions {
     let answer = received.answer;
-    lines::received(answer);
+    lines::received(rt, answer);
     let session = received.session;
     s.first = session;
     s
 }
 
-fn received_by_second(mut s: Sessions, received: digit_decoder::Received) -> Sessions {
+fn received_by_second(
+    rt: &(impl Print + Eprint),
+    mut s: Sessions,
+    received: digit_decoder::Received,
+) -> Sessions {
     let answer = received.answer;
-    lines::received(answer);
+    lines::received(rt, answer);
     let session = received.session;
     s.second = session;
     s
 }
 
-fn sent(mut s: Sessions, sent: encoder::Sent) -> Sessions {
+fn sent(rt: &(impl Print + Eprint), mut s: Sessions, sent: encoder::Sent) -> Sessions {
     let answer = sent.answer;
-    lines::sent(answer);
+    lines::sent(rt, answer);
     let session = sent.session;
     s.sender = session;
     s
 }
 
-fn selects(mut s: Sessions, selected: u8) -> Sessions {
-    lines::session(selected);
+fn selects(rt: &(impl Print + Eprint), mut s: Sessions, selected: u8) -> Sessions {
+    lines::session(rt, selected);
     s.selected = selected;
     s
 }
 
-fn receives_byte(s: Sessions, number: u8, frame: u8) -> Sessions {
+fn receives_byte(rt: &(impl Print + Eprint), s: Sessions, number: u8, frame: u8) -> Sessions {
     if s.selected == 0 {
         let session = s.first;
-        return received_by_first(s, decoder::receive_byte(session, number, frame));
+        return received_by_first(rt, s, decoder::receive_byte(session, number, frame));
     }
     let session = s.second;
-    received_by_second(s, digit_decoder::receive_byte(session, number, frame))
+    received_by_second(rt, s, digit_decoder::receive_byte(session, number, frame))
 }
 
-fn receives_readings(s: Sessions, number: u8, readings: [Reading; 8]) -> Sessions {
+fn receives_readings(
+    rt: &(impl Print + Eprint),
+    s: Sessions,
+    number: u8,
+    readings: [Reading; 8],
+) -> Sessions {
     if s.selected == 0 {
         let session = s.first;
-        return received_by_first(s, decoder::receive_readings(session, number, readings));
+        return received_by_first(rt, s, decoder::receive_readings(session, number, readings));
     }
     let session = s.second;
     received_by_second(
+        rt,
         s,
         digit_decoder::receive_readings(session, number, readings),
     )
 }
 
-fn sends(s: Sessions, info: u8) -> Sessions {
+fn sends(rt: &(impl Print + Eprint), s: Sessions, info: u8) -> Sessions {
     let session = s.sender;
-    sent(s, encoder::send(session, info))
+    sent(rt, s, encoder::send(session, info))
 }
 
-fn sends_tail(s: Sessions) -> Sessions {
+fn sends_tail(rt: &(impl Print + Eprint), s: Sessions) -> Sessions {
     let session = s.sender;
-    sent(s, encoder::send_tail(session))
+    sent(rt, s, encoder::send_tail(session))
 }
 
-fn tells_figure(s: Sessions) -> Sessions {
+fn tells_figure(rt: &(impl Print + Eprint), s: Sessions) -> Sessions {
     let session = s.first;
-    lines::figure(decoder::link_figure(session));
+    lines::figure(rt, decoder::link_figure(session));
     s
 }
 
@@ -166,21 +180,22 @@ fn is_good(record: &[u8], selected: u8) -> bool {
 }
 
 // One record that is good and whole.
-fn one(s: Sessions, record: &[u8]) -> Sessions {
+fn one(rt: &(impl Print + Eprint), s: Sessions, record: &[u8]) -> Sessions {
     let kind = byte(record, 0);
     let second = byte(record, 1);
     match kind {
-        b'b' => receives_byte(s, second, byte(record, 2)),
-        b'r' => receives_readings(s, second, readings(record)),
-        b'i' => sends(s, second),
-        b't' => sends_tail(s),
-        b's' => selects(s, second),
-        _ => tells_figure(s),
+        b'b' => receives_byte(rt, s, second, byte(record, 2)),
+        b'r' => receives_readings(rt, s, second, readings(record)),
+        b'i' => sends(rt, s, second),
+        b't' => sends_tail(rt, s),
+        b's' => selects(rt, s, second),
+        _ => tells_figure(rt, s),
     }
 }
 
 // The records in their order, to the end or to one that is none.
 pub(crate) fn all(
+    rt: &(impl Print + Eprint),
     input: &[u8],
     first: decoder::Session,
     second: digit_decoder::Session,
@@ -197,20 +212,20 @@ pub(crate) fn all(
         let kind = input[at];
         let n = size(kind);
         if n == 0 {
-            lines::bad_record();
+            lines::bad_record(rt);
             return;
         }
         if input.len() - at < n {
-            lines::bad_record();
+            lines::bad_record(rt);
             return;
         }
         let end = at + n;
         let record = &input[at..end];
         if !is_good(record, s.selected) {
-            lines::bad_record();
+            lines::bad_record(rt);
             return;
         }
-        s = one(s, record);
+        s = one(rt, s, record);
         at = end;
     }
 }
