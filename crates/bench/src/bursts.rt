@@ -1,5 +1,6 @@
 // Whole bursts: the line of one, whether it is sent or received.
 use crate::{drafts, lines, tables};
+use std::io;
 
 #[derive(Clone, Copy)]
 pub(crate) enum Call {
@@ -22,39 +23,55 @@ fn magnitude(x: i32) -> u64 {
 }
 
 // The count of output frames, or minus the refusal.
-fn answer(came: i32) {
+fn answer(rt: &impl Print, came: i32) -> io::Result<()> {
     if came < 0 {
-        lines::counted(b": refused ", magnitude(came));
+        lines::counted(rt, b": refused ", magnitude(came))
     } else {
-        lines::counted(b": count ", magnitude(came));
+        lines::counted(rt, b": count ", magnitude(came))
     }
 }
 
 // What the call answers on the card of that letter.
-pub(crate) fn answered(call: Call, letter: u8, input: &[u8], output: &mut [u8]) {
+pub(crate) fn answered(
+    rt: &impl Print,
+    call: Call,
+    letter: u8,
+    input: &[u8],
+    output: &mut [u8],
+) -> io::Result<()> {
     let draft = drafts::named(letter);
     let bytes = draft.bytes;
-    answer(call_of(call, lines::front(&bytes, draft.len), input, output));
+    answer(
+        rt,
+        call_of(call, lines::front(&bytes, draft.len), input, output),
+    )
 }
 
-fn bytes(output: &[u8]) {
-    lines::text(b", bytes");
+fn bytes(rt: &impl Print, output: &[u8]) -> io::Result<()> {
+    lines::text(rt, b", bytes")?;
     for i in 0..output.len() {
-        lines::counted(b" ", output[i] as u64);
+        lines::counted(rt, b" ", output[i] as u64)?;
     }
+    Ok(())
 }
 
 // What the call answers, and every byte that was lent for the output.
-fn shown(call: Call, letter: u8, input: &[u8], output: &mut [u8]) {
-    answered(call, letter, input, output);
-    bytes(output);
-    lines::text(b"\n");
+fn shown(
+    rt: &impl Print,
+    call: Call,
+    letter: u8,
+    input: &[u8],
+    output: &mut [u8],
+) -> io::Result<()> {
+    answered(rt, call, letter, input, output)?;
+    bytes(rt, output)?;
+    lines::text(rt, b"\n")
 }
 
 // What a row feeds is the letter of a card, the room for output frames, eight at most, and the input frames.
-pub(crate) fn row(call: Call, fed: &[u8]) {
+pub(crate) fn row(rt: &impl Print, call: Call, fed: &[u8]) -> io::Result<()> {
     let mut output = [BEFORE; 8];
     let room = bits::at_most(bits::size(tables::byte(fed, 1)), 8);
     let input = tables::from(fed, 2);
-    shown(call, tables::byte(fed, 0), input, &mut output[..room]);
+    shown(rt, call, tables::byte(fed, 0), input, &mut output[..room])
 }

@@ -6,44 +6,45 @@ use crate::{drafts, levels, lines, tables};
 use code::MOST_FRAMES;
 use decoder::Session;
 use receiving::Answer;
+use std::io;
 
-pub(crate) fn cases() {
-    sessions();
-    levels::digits();
-    levels::band();
-    mixed_sessions();
-    levels::erasures();
-    whole_bursts();
+pub(crate) fn cases(rt: &impl Print) -> io::Result<()> {
+    sessions(rt)?;
+    levels::digits(rt)?;
+    levels::band(rt)?;
+    mixed_sessions(rt)?;
+    levels::erasures(rt)?;
+    whole_bursts(rt)
 }
 
 // The verdict on the card of that letter. What each call answers comes after it.
-pub(crate) fn opened(letter: u8) -> Session {
+pub(crate) fn opened(rt: &impl Print, letter: u8) -> io::Result<Session> {
     let draft = drafts::named(letter);
     let bytes = draft.bytes;
     let opened = decoder::open(lines::front(&bytes, draft.len));
     let verdict = opened.verdict;
-    lines::verdict(verdict);
-    opened.session
+    lines::verdict(rt, verdict)?;
+    Ok(opened.session)
 }
 
-pub(crate) fn answer(came: Answer) {
+pub(crate) fn answer(rt: &impl Print, came: Answer) -> io::Result<()> {
     match came {
-        Answer::Waiting => lines::text(b", waiting"),
-        Answer::Frame(frame) => lines::counted(b", frame ", frame as u64),
-        Answer::Refused(refusal) => lines::refused(b", refused ", refusal),
+        Answer::Waiting => lines::text(rt, b", waiting"),
+        Answer::Frame(frame) => lines::counted(rt, b", frame ", frame as u64),
+        Answer::Refused(refusal) => lines::refused(rt, b", refused ", refusal),
     }
 }
 
-fn receive(s: Session, number: u8, frame: u8) -> Session {
+fn receive(rt: &impl Print, s: Session, number: u8, frame: u8) -> io::Result<Session> {
     let received = decoder::receive_byte(s, number, frame);
     let came = received.answer;
-    answer(came);
-    received.session
+    answer(rt, came)?;
+    Ok(received.session)
 }
 
-fn figure(s: Session) -> Session {
-    lines::counted(b", figure ", decoder::link_figure(s) as u64);
-    s
+fn figure(rt: &impl Print, s: Session) -> io::Result<Session> {
+    lines::counted(rt, b", figure ", decoder::link_figure(s) as u64)?;
+    Ok(s)
 }
 
 // What a run of calls comes to: how often 'waiting' came, and how many frames.
@@ -78,24 +79,24 @@ fn zeros(s: Session, times: u32) -> Run {
     }
 }
 
-fn receive_zeros(s: Session, times: u32) -> Session {
+fn receive_zeros(rt: &impl Print, s: Session, times: u32) -> io::Result<Session> {
     let run = zeros(s, times);
-    lines::counted(b", ", run.waiting as u64);
-    lines::counted(b" waiting and ", run.frames as u64);
-    lines::text(b" frames");
-    run.session
+    lines::counted(rt, b", ", run.waiting as u64)?;
+    lines::counted(rt, b" waiting and ", run.frames as u64)?;
+    lines::text(rt, b" frames")?;
+    Ok(run.session)
 }
 
 // An `f` asks for the link figure, a `z` for the frame 0 thirty times, an `=` for it as often as a stream may have frames. Any other
 // letter is a frame as readings, by `levels::frame`. Any other byte is the frame, but for spaces and card numbers.
-fn step(s: Session, number: u8, fed: u8) -> Session {
+fn step(rt: &impl Print, s: Session, number: u8, fed: u8) -> io::Result<Session> {
     match fed {
-        b' ' | b'0'..=b'9' => s,
-        b'f' => figure(s),
-        b'z' => receive_zeros(s, 30),
-        b'=' => receive_zeros(s, MOST_FRAMES as u32),
-        b'A'..=b'Z' | b'a'..=b'z' => levels::receive(s, number, levels::frame(fed)),
-        _ => receive(s, number, fed),
+        b' ' | b'0'..=b'9' => Ok(s),
+        b'f' => figure(rt, s),
+        b'z' => receive_zeros(rt, s, 30),
+        b'=' => receive_zeros(rt, s, MOST_FRAMES as u32),
+        b'A'..=b'Z' | b'a'..=b'z' => levels::receive(rt, s, number, levels::frame(fed)),
+        _ => receive(rt, s, number, fed),
     }
 }
 
@@ -108,26 +109,27 @@ fn number_at(number: u8, fed: u8) -> u8 {
 }
 
 // Under the session's own card number, where no other is told.
-fn steps(s: Session, fed: &[u8]) -> Session {
+fn steps(rt: &impl Print, s: Session, fed: &[u8]) -> io::Result<Session> {
     let card = s.card;
     let mut number = card.number;
     let mut session = s;
     for i in 0..fed.len() {
         number = number_at(number, fed[i]);
-        session = step(session, number, fed[i]);
+        session = step(rt, session, number, fed[i])?;
     }
-    session
+    Ok(session)
 }
 
 // What a row feeds is the letter of a card, and the steps of the session.
-pub(crate) fn row(fed: &[u8]) {
-    steps(opened(tables::byte(fed, 0)), tables::from(fed, 1));
-    lines::text(b"\n");
+pub(crate) fn row(rt: &impl Print, fed: &[u8]) -> io::Result<()> {
+    steps(rt, opened(rt, tables::byte(fed, 0))?, tables::from(fed, 1))?;
+    lines::text(rt, b"\n")
 }
 
 // The last ones with the link figure, before the first frame and after each.
-fn sessions() {
+fn sessions(rt: &impl Print) -> io::Result<()> {
     tables::each(
+        rt,
         Kind::Receiving,
         b"P receives 3, 3, 3, 2|P\x03\x03\x03\x02;\
           P receives 2, 2, 0, 0|P\x02\x02\x00\x00;\
@@ -140,25 +142,27 @@ fn sessions() {
           Q receives 2, 2, 0, 0, with the figure|Qf\x02f\x02f\x00f\x00f;\
           P receives 2, 2, with the figure|Pf\x02f\x02f;\
           m 0 receives 2, with the figure|Mf\x02f;",
-    );
+    )
 }
 
 // Bytes and readings in one session; then calls under other card numbers. A refused call leaves the session as it was; 14 comes before 12
 // and before 11.
-fn mixed_sessions() {
+fn mixed_sessions(rt: &impl Print) -> io::Result<()> {
     tables::each(
+        rt,
         Kind::Receiving,
         b"P receives 3 as readings, 3, 3 as bytes, 2 as readings|Ph\x03\x03H;\
           P receives NaN under card number 8, then NaN, 3, 2 under 7|P 8 n 7 n\x03\x02;\
           P receives 3, 4 under card number 8, then 4, 3, 2 under 7|P 8 \x03\x04 7 \x04\x03\x02;\
           the first 19 bytes of P receive 3 under card numbers 7 and 0|p 7 \x03 0 \x03;",
-    );
+    )
 }
 
 // The last of those that are answered have m frames or fewer, so that none is handed out. Of the refusals, the card comes before 13, and 13
 // before 11.
-fn whole_bursts() {
+fn whole_bursts(rt: &impl Print) -> io::Result<()> {
     tables::each(
+        rt,
         Kind::Burst(Call::Receive),
         b"P receives the burst 3, 3, 3, 2 into 3 bytes|P\x03\x03\x03\x03\x02;\
           P receives the burst 2, 2, 0, 0 into 5 bytes|P\x05\x02\x02\x00\x00;\
@@ -174,5 +178,5 @@ fn whole_bursts() {
           P receives the burst 3, 4, 3, 2 into 3 bytes|P\x03\x03\x04\x03\x02;\
           P receives the burst 3, 4, 3, 2 into 2 bytes|P\x02\x03\x04\x03\x02;\
           the first 19 bytes of P receive the burst 4, 4, 4 into 1 byte|p\x01\x04\x04\x04;",
-    );
+    )
 }

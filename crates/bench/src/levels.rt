@@ -3,12 +3,18 @@ use crate::tables::Kind;
 use crate::{decoding, lines, tables};
 use decoder::Session;
 use receiving::Reading;
+use std::io;
 
-pub(crate) fn receive(s: Session, number: u8, readings: [Reading; 8]) -> Session {
+pub(crate) fn receive(
+    rt: &impl Print,
+    s: Session,
+    number: u8,
+    readings: [Reading; 8],
+) -> io::Result<Session> {
     let received = decoder::receive_readings(s, number, readings);
     let came = received.answer;
-    decoding::answer(came);
-    received.session
+    decoding::answer(rt, came)?;
+    Ok(received.session)
 }
 
 // The level that a small letter of a row, or a sign, stands for: one, half, a quarter, the next ones above and below a quarter, the largest
@@ -68,8 +74,8 @@ pub(crate) fn frame(letter: u8) -> [Reading; 8] {
 }
 
 // What a row feeds are the letters of the first reading, of the third and of those after it; the second is one. The card has no memory.
-pub(crate) fn row(fed: &[u8]) {
-    let s = decoding::opened(b'M');
+pub(crate) fn row(rt: &impl Print, fed: &[u8]) -> io::Result<()> {
+    let s = decoding::opened(rt, b'M')?;
     let card = s.card;
     let levels = lettered(
         tables::byte(fed, 0),
@@ -77,14 +83,15 @@ pub(crate) fn row(fed: &[u8]) {
         tables::byte(fed, 1),
         tables::byte(fed, 2),
     );
-    receive(s, card.number, levels);
-    lines::text(b"\n");
+    receive(rt, s, card.number, levels)?;
+    lines::text(rt, b"\n")
 }
 
 // With the digits d, 1 and 0 one of the two checks is 1, so that d is handed out, and 0 if it is erased. The third reading is the last of three
 // streams.
-pub(crate) fn digits() {
+pub(crate) fn digits(rt: &impl Print) -> io::Result<()> {
     tables::each(
+        rt,
         Kind::Levels,
         b"m 0 reads 0.5, 1, -1|h--;\
           m 0 reads -0.5, 1, -1|H--;\
@@ -95,13 +102,14 @@ pub(crate) fn digits() {
           m 0 reads minus infinity, 1, -1|I--;\
           m 0 reads 0.5, 1, NaN|hn-;\
           m 0 reads 0.5, 1, -1, then NaN|h-n;",
-    );
+    )
 }
 
 // The second frame has the level as its information digit, and 1 after it. The first three rows tell apart what it may be: erased, 1 and 0. Of the
 // others 0.24999999 and 0.25000003 are the neighbours of 0.25, and the last four the least and the largest subnormal.
-pub(crate) fn band() {
+pub(crate) fn band(rt: &impl Print) -> io::Result<()> {
     tables::each(
+        rt,
         Kind::Receiving,
         b"P receives 1, erased and 1, 0|P\x01e\x00;\
           P receives 1, 3, 0|P\x01\x03\x00;\
@@ -118,14 +126,15 @@ pub(crate) fn band() {
           P receives 1, -1.0e-45 and 1, 0|P\x01S\x00;\
           P receives 1, 1.1754942e-38 and 1, 0|P\x01d\x00;\
           P receives 1, -1.1754942e-38 and 1, 0|P\x01D\x00;",
-    );
+    )
 }
 
 // Q sends 1 as 3, 2, 0, 2; P sends 1, 1, 0 as 3, 1, 2, 0, and 1, 0, 1 as 3, 2, 3, 2; T sends 3 as 3, 4, 4. A digit besides may be wrong. A row
 // with nothing erased has the frames of the one before it as bytes, 0 for a lost one. T's s0 votes on stream 2, whose own digit is erased, and not
 // on stream 1: with votes on both, its second row would give 0, and with none 3.
-pub(crate) fn erasures() {
+pub(crate) fn erasures(rt: &impl Print) -> io::Result<()> {
     tables::each(
+        rt,
         Kind::Receiving,
         b"Q receives 1, a lost frame, 0, 2|Q\x01x\x00\x02;\
           Q receives 1, 0, 0, 2|Q\x01\x00\x00\x02;\
@@ -141,5 +150,5 @@ pub(crate) fn erasures() {
           T receives 1, 4, 4, the first digit of stream 2 erased|Tp\x04\x04;\
           T receives 0, 4, 4, the first digit of stream 2 erased|TP\x04\x04;\
           P receives 2, 0, 2, 0, every information digit erased, with the figure|PfefEfefEf;",
-    );
+    )
 }

@@ -8,12 +8,13 @@ use crate::tables::Kind;
 use crate::{bursts, lines, tables};
 use code::MOST_FRAMES;
 use encoder::{Answer, Session};
+use std::io;
 
-pub(crate) fn cases() {
-    sending_sessions();
-    receiving_session();
-    sent_bursts();
-    received_bursts();
+pub(crate) fn cases(rt: &impl Print) -> io::Result<()> {
+    sending_sessions(rt)?;
+    receiving_session(rt)?;
+    sent_bursts(rt)?;
+    received_bursts(rt)
 }
 
 // A count of frames by the sign that a row has for it: as many as a stream may have, two fewer, one fewer, or one more.
@@ -48,30 +49,32 @@ fn ones(s: Session, times: usize) -> Run {
     Run { session, frames }
 }
 
-pub(crate) fn send_ones(s: Session, times: usize) -> Session {
+pub(crate) fn send_ones(rt: &impl Print, s: Session, times: usize) -> io::Result<Session> {
     let run = ones(s, times);
-    lines::counted(b", ", run.frames);
-    lines::text(b" frames");
-    run.session
+    lines::counted(rt, b", ", run.frames)?;
+    lines::text(rt, b" frames")?;
+    Ok(run.session)
 }
 
 // Room for the tail is kept; 16 comes before 15, and 15 before 11.
-fn sending_sessions() {
+fn sending_sessions(rt: &impl Print) -> io::Result<()> {
     tables::each(
+        rt,
         Kind::Sending,
         b"P sends 1 for 1048575 times, then 1, 2, two tail frames and 1|P-\x01\x02tt\x01;\
           m 0 sends 1 for 1048576 times, then 1, 2 and a tail frame|M=\x01\x02t;\
           m 2 sends 1 for 1048575 times, then 8, three tail frames and 8|W-\x08ttt\x08;",
-    );
+    )
 }
 
 // 14 comes before 15, and 15 before 11 and 12.
-fn receiving_session() {
+fn receiving_session(rt: &impl Print) -> io::Result<()> {
     tables::each(
+        rt,
         Kind::Receiving,
         b"P receives 0 for 1048576 times, then 0, 4 and NaN, then 0 under card number 8|P=\x00\x04n 8 \x00;\
           card number 200 receives 0 for 1048576 times, then 63, 64 and NaN, then 0 under card number 8|W=\x3f\x40n 8 \x00;",
-    );
+    )
 }
 
 // Frames all alike, one more than a stream may have.
@@ -89,17 +92,18 @@ fn room(byte: u8) -> [u8; MOST_FRAMES]
 }
 
 // What a row feeds is the letter of a card, the sign of a count, and the frame that is given so many times.
-pub(crate) fn row(call: Call, fed: &[u8]) {
+pub(crate) fn row(rt: &impl Print, call: Call, fed: &[u8]) -> io::Result<()> {
     let frames = too_many(tables::byte(fed, 2));
     let mut output = room(bursts::BEFORE);
     let input = lines::front(&frames, count(tables::byte(fed, 1)));
-    bursts::answered(call, tables::byte(fed, 0), input, &mut output);
-    lines::text(b"\n");
+    bursts::answered(rt, call, tables::byte(fed, 0), input, &mut output)?;
+    lines::text(rt, b"\n")
 }
 
 // Information and tail together; 15 comes before 13.
-fn sent_bursts() {
+fn sent_bursts(rt: &impl Print) -> io::Result<()> {
     tables::each(
+        rt,
         Kind::LongBurst(Call::Send),
         b"P sends a burst of 1048575 frames|P-\x01;\
           P sends a burst of 1048576 frames|P=\x01;\
@@ -107,12 +111,13 @@ fn sent_bursts() {
           m 0 sends a burst of 1048577 frames|M+\x01;\
           m 2 sends a burst of 1048574 frames|W_\x01;\
           m 2 sends a burst of 1048575 frames|W-\x01;",
-    );
+    )
 }
 
 // 15 comes before 13.
-fn received_bursts() {
+fn received_bursts(rt: &impl Print) -> io::Result<()> {
     tables::each(
+        rt,
         Kind::LongBurst(Call::Receive),
         b"P receives a burst of 1048576 frames|P=\x00;\
           P receives a burst of 1048577 frames|P+\x00;\
@@ -120,5 +125,5 @@ fn received_bursts() {
           m 0 receives a burst of 1048577 frames|M+\x00;\
           m 2 receives a burst of 1048576 frames|W=\x00;\
           m 2 receives a burst of 1048577 frames|W+\x00;",
-    );
+    )
 }

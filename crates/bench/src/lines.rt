@@ -1,31 +1,31 @@
 // The lines that the bench writes: what a case is, a colon, and what it came to.
 use crate::drafts::Draft;
 use card::CardRule;
-use libc::STDOUT_FILENO;
+use std::io;
 
-pub(crate) fn text(words: &[u8]) {
-    io::write_all(STDOUT_FILENO, words);
+pub(crate) fn text(rt: &impl Print, words: &[u8]) -> io::Result<()> {
+    rt.write_all(words)
 }
 
-pub(crate) fn number(n: u64) {
-    io::print_decimal(STDOUT_FILENO, n);
+pub(crate) fn number(rt: &impl Print, n: u64) -> io::Result<()> {
+    rt.print(n)
 }
 
-pub(crate) fn counted(words: &[u8], n: u64) {
-    text(words);
-    number(n);
+pub(crate) fn counted(rt: &impl Print, words: &[u8], n: u64) -> io::Result<()> {
+    text(rt, words)?;
+    number(rt, n)
 }
 
-pub(crate) fn refused(words: &[u8], refusal: card::Refusal) {
-    counted(words, card::refusal_number(refusal) as u64);
+pub(crate) fn refused(rt: &impl Print, words: &[u8], refusal: card::Refusal) -> io::Result<()> {
+    counted(rt, words, card::refusal_number(refusal) as u64)
 }
 
-pub(crate) fn verdict(v: card::Verdict) {
+pub(crate) fn verdict(rt: &impl Print, v: card::Verdict) -> io::Result<()> {
     match v {
-        card::Verdict::Accepted => text(b": accepted"),
+        card::Verdict::Accepted => text(rt, b": accepted"),
         card::Verdict::Refused { refusal, offset } => {
-            refused(b": refused ", refusal);
-            counted(b" at ", offset as u64);
+            refused(rt, b": refused ", refusal)?;
+            counted(rt, b" at ", offset as u64)
         }
     }
 }
@@ -43,10 +43,10 @@ pub(crate) fn front(bytes: &[u8], len: usize) -> &[u8] {
 }
 
 // The end of a line: what reading the card comes to under a rule.
-pub(crate) fn outcome(rule: CardRule, draft: Draft) {
+pub(crate) fn outcome(rt: &impl Print, rule: CardRule, draft: Draft) -> io::Result<()> {
     let bytes = draft.bytes;
     let read = card::read_card(rule, front(&bytes, draft.len));
     let v = read.verdict;
-    verdict(v);
-    text(b"\n");
+    verdict(rt, v)?;
+    text(rt, b"\n")
 }

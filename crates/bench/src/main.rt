@@ -15,16 +15,18 @@ mod tables;
 
 ghost use Rattle.bench.specs.Rows.{Rows};
 
+use std::io;
+
 // The starred cases, over the definitions. Nothing runs: what is promised is the theorem, and as a promise it is asked for by every check.
 fn starred_rows()
     ensures { Rows }
 {}
 
-fn main() {
+fn main(rt: HostRuntime) -> io::Result<()> {
     starred_rows();
-    reading::cases();
-    sending::cases();
-    decoding::cases();
-    limits::cases();
-    listed::cases();
+    reading::cases(&rt)?;
+    sending::cases(&rt)?;
+    decoding::cases(&rt)?;
+    limits::cases(&rt)?;
+    listed::cases(&rt)
 }

@@ -3,17 +3,18 @@ use crate::drafts::Draft;
 use crate::tables::Kind;
 use crate::{drafts, lines, tables};
 use card::CardRule;
+use std::io;
 
-pub(crate) fn cases() {
-    starred();
-    memory_and_streams();
-    stated_defaults(Kind::Card);
-    stated_defaults(Kind::StoredCard);
-    maps_and_masks();
-    counts(Kind::Card);
-    counts(Kind::StoredCard);
-    cuts();
-    lengths();
+pub(crate) fn cases(rt: &impl Print) -> io::Result<()> {
+    starred(rt)?;
+    memory_and_streams(rt)?;
+    stated_defaults(rt, Kind::Card)?;
+    stated_defaults(rt, Kind::StoredCard)?;
+    maps_and_masks(rt)?;
+    counts(rt, Kind::Card)?;
+    counts(rt, Kind::StoredCard)?;
+    cuts(rt)?;
+    lengths(rt)
 }
 
 // What a row feeds is the letter of a card, and after it nothing, a byte to add, or the offset and the value of a byte to change; or, of a
@@ -37,15 +38,16 @@ pub(crate) fn drafted(fed: &[u8]) -> Draft {
 }
 
 // What the card came to before R-4.
-pub(crate) fn formerly(card: Draft) {
-    lines::text(b", under the former rule");
-    lines::outcome(CardRule::Former, card);
+pub(crate) fn formerly(rt: &impl Print, card: Draft) -> io::Result<()> {
+    lines::text(rt, b", under the former rule")?;
+    lines::outcome(rt, CardRule::Former, card)
 }
 
 // The starred cases, the rows of `specs/Rows.antt`. The mask of Q's third check begins at byte 21, that of R's fourth at 26, and that of the
 // second of T's stream 1 at 22.
-fn starred() {
+fn starred(rt: &impl Print) -> io::Result<()> {
     tables::each(
+        rt,
         Kind::Card,
         b"P|P;\
           Q|Q;\
@@ -57,12 +59,13 @@ fn starred() {
           the first 19 bytes of P|p;\
           P with a zero byte added|P\x00;\
           Q with s0 again as its third check|Q\x15\x01;",
-    );
+    )
 }
 
 // m is byte 2 of P. Then k at both ends, and n at both ends for each k; a default doesn't stand.
-fn memory_and_streams() {
+fn memory_and_streams(rt: &impl Print) -> io::Result<()> {
     tables::each(
+        rt,
         Kind::Card,
         b"P with m 31|P\x02\x1f;\
           P with m 31 and terms 0 and 31|F;\
@@ -86,12 +89,13 @@ fn memory_and_streams() {
           k 4, n 9|K\x04\x09\x11\x11;\
           k 2, n by default|n;\
           k 3, n 6, J 4, 2 and 3|W;",
-    );
+    )
 }
 
 // Fields that stand with their defaults, and what is tested before that: a field's end and its range.
-fn stated_defaults(kind: Kind) {
+fn stated_defaults(rt: &impl Print, kind: Kind) -> io::Result<()> {
     tables::each(
+        rt,
         kind,
         b"P, k stated as 1 and n as 2|d;\
           k 1, n 2, both stated|B\x01\x02\x01\x00;\
@@ -102,13 +106,14 @@ fn stated_defaults(kind: Kind) {
           n stated as 2, and no more|e;\
           k stated as 1, and no n|f;\
           k stated, and no k|h;",
-    );
+    )
 }
 
 // P's maps are byte 0, bytes 3 and 4 for its one generator, and byte 10 for the one parity stream of its first check. Its generator begins
 // at byte 5, the mask of its first check at byte 11; m is 1.
-fn maps_and_masks() {
+fn maps_and_masks(rt: &impl Print) -> io::Result<()> {
     tables::each(
+        rt,
         Kind::Card,
         b"P with bit 2 of byte 0|P\x00\x04;\
           P with bit 7 of byte 0|P\x00\x80;\
@@ -121,40 +126,43 @@ fn maps_and_masks() {
           P with a generator that has a bit above m|P\x05\x07;\
           P with a check's mask that is zero|P\x0b\x00;\
           P with a check's mask that has a bit above m|P\x0b\x05;",
-    );
+    )
 }
 
 // J is byte 34 of the card with ten checks, and of that with eleven: document 02, R-13, "7 is now met from J = 11", "in R-4's program too".
-fn counts(kind: Kind) {
+fn counts(rt: &impl Print, kind: Kind) -> io::Result<()> {
     tables::each(
+        rt,
         kind,
         b"J 0|S\x22\x00;\
           J 10|S;\
           J 11|s;\
           J 16|S\x22\x10;\
           J 255|S\x22\xff;",
-    );
+    )
 }
 
 // P ends at byte 20.
-fn cuts() {
+fn cuts(rt: &impl Print) -> io::Result<()> {
     for len in 0..20 {
-        cut(len);
+        cut(rt, len)?;
     }
+    Ok(())
 }
 
-fn cut(len: usize) {
-    lines::counted(b"P cut at byte ", len as u64);
-    lines::outcome(CardRule::Present, drafts::cut(drafts::named(b'P'), len));
+fn cut(rt: &impl Print, len: usize) -> io::Result<()> {
+    lines::counted(rt, b"P cut at byte ", len as u64)?;
+    lines::outcome(rt, CardRule::Present, drafts::cut(drafts::named(b'P'), len))
 }
 
 // "No accepted card is then longer than 755 bytes" (R-13), and one has as many.
-fn lengths() {
+fn lengths(rt: &impl Print) -> io::Result<()> {
     tables::each(
+        rt,
         Kind::Card,
         b"no bytes|;\
           755 bytes|L;\
           its first 754 bytes|l;\
           a zero byte added to it|L\x00;",
-    );
+    )
 }

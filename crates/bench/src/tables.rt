@@ -5,6 +5,7 @@
 use crate::bursts::Call;
 use crate::{bursts, decoding, levels, limits, lines, listed, reading, sending};
 use card::CardRule;
+use std::io;
 
 // What the rows of a table are about.
 #[derive(Clone, Copy)]
@@ -19,20 +20,20 @@ pub(crate) enum Kind {
     Listing,
 }
 
-fn row(kind: Kind, fed: &[u8]) {
+fn row(rt: &impl Print, kind: Kind, fed: &[u8]) -> io::Result<()> {
     match kind {
-        Kind::Card => lines::outcome(CardRule::Present, reading::drafted(fed)),
-        Kind::StoredCard => reading::formerly(reading::drafted(fed)),
-        Kind::Sending => sending::row(fed),
-        Kind::Receiving => decoding::row(fed),
-        Kind::Levels => levels::row(fed),
-        Kind::Burst(call) => bursts::row(call, fed),
-        Kind::LongBurst(call) => limits::row(call, fed),
-        Kind::Listing => listed::row(fed),
+        Kind::Card => lines::outcome(rt, CardRule::Present, reading::drafted(fed)),
+        Kind::StoredCard => reading::formerly(rt, reading::drafted(fed)),
+        Kind::Sending => sending::row(rt, fed),
+        Kind::Receiving => decoding::row(rt, fed),
+        Kind::Levels => levels::row(rt, fed),
+        Kind::Burst(call) => bursts::row(rt, call, fed),
+        Kind::LongBurst(call) => limits::row(rt, call, fed),
+        Kind::Listing => listed::row(rt, fed),
     }
 }
 
-pub(crate) fn each(kind: Kind, table: &[u8]) {
+pub(crate) fn each(rt: &impl Print, kind: Kind, table: &[u8]) -> io::Result<()> {
     let mut start: usize = 0;
     let mut bar: usize = 0;
     for i in 0..table.len() {
@@ -40,11 +41,12 @@ pub(crate) fn each(kind: Kind, table: &[u8]) {
             bar = i;
         }
         if table[i] == b';' {
-            lines::text(lines::part(table, start, bar));
-            row(kind, lines::part(table, bar + 1, i));
+            lines::text(rt, lines::part(table, start, bar))?;
+            row(rt, kind, lines::part(table, bar + 1, i))?;
             start = i + 1;
         }
     }
+    Ok(())
 }
 
 // A byte of what a row feeds; beyond the end there are zeros.
