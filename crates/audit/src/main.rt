@@ -1,7 +1,7 @@
 // Audits stored cards: files by name as arguments, a line to standard output for each that holds no good card, and last the count of those that do.
 #![tactic(auto)]
 
-ghost use Rattle.std.specs.Prelude.{◌≤◌, length};
+ghost use Rattle.std.specs.Prelude.{◌≡◌, ◌≤◌, length};
 
 use listing::auditing;
 use listing::auditing::{AUDIT_ROOM, Audited};
