@@ -7,17 +7,21 @@ mkdir -p "$built"
 flags="-std=c11 -Wall -Wextra -Wpedantic -Itests"
 reference=$(echo tests/reference/*.c)
 
-# As build_library of tools/building.sh, for a program.
-build_program() {
-    stale "target/bin/$1" || return 0
-    tools/rt_apart check "$1"
+# Where rt leaves a program that it has proved and built, be it by rt ci or by rt run.
+program_of() { # NAME
+    echo "crates/$1/out/$1"
+}
+
+# As build_library of tools/building.sh, for a program. rt runs what it has built: here on no input, and nobody reads what comes.
+build_program() { # NAME
+    stale "$(program_of "$1")" || return 0
+    env -C "crates/$1" rt run </dev/null >/dev/null
 }
 
 # The same for the sessions that are measured beside the library.
 sessions=target/staticlib/libsessions.a
 build_sessions() {
-    stale "$sessions" || return 0
-    tools/rt_apart staticlib sessions
+    build_archive "$sessions" sessions_c
 }
 
 # Compiles the measuring program over the libraries that are named. Functions and loops are aligned, lest a time depend on where the linker puts

@@ -9,13 +9,20 @@ fi
 
 library=target/staticlib/libburst.a
 
-# Whether a file is not there, or something under crates/ has changed since it was built.
+# Whether a file is not there, or something under crates/ has changed since it was built. What rt makes is in the crates' out/.
 stale() {
-    [ ! -f "$1" ] || [ -n "$(find crates crates.txt -newer "$1" -print -quit)" ]
+    [ ! -f "$1" ] || [ crates.txt -nt "$1" ] || [ -n "$(find crates -mindepth 2 -name out -prune -o -newer "$1" -print -quit)" ]
 }
 
-# Proves and compiles the library, where it is stale. Another rt may be at work.
+# Proves and compiles a crate for C, where its archive is stale. Another rt may be at work: the second waits where both need a crate.
+build_archive() { # ARCHIVE CRATE
+    stale "$1" || return 0
+    env -C "crates/$2" rt lib
+    mkdir -p "${1%/*}"
+    cp "crates/$2/out/lib$2.a" "$1.new"
+    mv "$1.new" "$1"
+}
+
 build_library() {
-    stale "$library" || return 0
-    tools/rt_apart staticlib burst
+    build_archive "$library" burst_c
 }

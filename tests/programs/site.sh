@@ -6,14 +6,16 @@ fail() {
 }
 
 # A root for the script in which every crate is proved at once, or none, by `proves`; the program is put there by the caller. And a folder for a site's cards.
-root=$PWD/$built/$script
+# It is outside the repository, where rt ci takes no second crates.txt and no links, and goes with the run.
+root=$(mktemp -d)
 site=$root/site
-fresh_root() {
-    [ ! -d "$site" ] || chmod 755 "$site" # a run that failed may have left it closed
+trap '[ ! -d "$site" ] || chmod 755 "$site"; rm -rf "$root"' EXIT
+fresh_root() { # PROGRAM
     rm -rf "$root"
-    mkdir -p "$root"/{crates,target/bin,tools,proves_all,proves_none} "$site"
+    mkdir -p "$root"/{"crates/$1/out",tools,proves_all,proves_none} "$site"
+    program=$root/crates/$1/out/$1
     cp "$script" "$root"
-    cp tools/{rt_apart,proved.sh} "$root/tools"
+    cp tools/proved.sh "$root/tools"
     touch "$root/crates.txt"
     printf '#!/bin/sh\nexit 0\n' >"$root/proves_all/rt"
     printf '#!/bin/sh\necho refused\nexit 1\n' >"$root/proves_none/rt"
