@@ -4,7 +4,7 @@
  *
  *     examples/build && target/examples/firmware
  *
- * (examples/build is `rt staticlib burst`, then `cc -Iinclude examples/firmware.c target/staticlib/libburst.a`.)
+ * (examples/build is `rt lib` in crates/burst_c, then `cc -Iinclude examples/firmware.c target/staticlib/libburst.a`.)
  *
  * A probe measures a temperature every few minutes and sends the last six as one burst. The loop below
  * plays the probe and the link as well: it sends by burst_send, spoils some digits, and receives by

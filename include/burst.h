@@ -1,7 +1,7 @@
 /* burst.h: convolutional coding and threshold decoding of whole bursts, for controller firmware; link cards
  * written out, to be carried from one unit to the next; and the standard cards.
  *
- * Link with libburst.a (`rt staticlib burst` writes it to target/staticlib/), on x86-64. C99 or later, or C++.
+ * Link with libburst.a (examples/build writes it to target/staticlib/), on x86-64. C99 or later, or C++.
  * examples/firmware.c is a whole program over this header, and examples/standard_card.c a smaller one.
  *
  *

@@ -1,4 +1,4 @@
-/* Sessions for tests/speed, one call of theirs for every frame: the crate `sessions`, target/staticlib/libsessions.a. */
+/* Sessions for tests/speed, one call of theirs for every frame: the crate `sessions_c`, target/staticlib/libsessions.a. */
 #ifndef SESSIONS_H
 #define SESSIONS_H
 
