@@ -6,9 +6,8 @@ use mathlib.Core.Logic.{⊎_elim}
 use mathlib.Core.List.{List, [], ◌∷◌}
 use native.Mathlib.Omega.{arith}
 use lib.ListN.{length, length-append}
-use Rattle.code.specs.declared.Card.{Card}
 use Rattle.encoder.specs.Outcome.{SendOutcome}
-use Rattle.encoder.specs.Sending.{refused_of, encoded_of, tail_out, send_of, send_tail_of}
+use Rattle.encoder.specs.Sending.{refused_of, encoded_of, tail_out}
 use Rattle.encoder.specs.Calls.{Call, information, tail, call_of, information_taken, tail_taken, session_after}
 use Rattle.encoder.specs.declared.Session.{Session}
 use Rattle.encoder.proofs.Outcomes.{tail-out, tail-taken}

@@ -4,11 +4,10 @@ use mathlib.Core.Path.{◌≡◌, sym, ap, ◌∙◌}
 use mathlib.Core.Bool.{Bool, true, false, cond}
 use mathlib.Core.List.{List}
 use native.Mathlib.Omega.{arith}
-use lib.Dec.{ltb}
 use lib.Ieee.{Float, nan, inf, fin}
 use borrow.Author.Tests.{lt-ltb, le-ltb, lt-leb, le-leb}
 use Rattle.bits.proofs.Sums.{term-le-sum}
-use Rattle.receiving.specs.Readings.{ReadingYield, digit, erased, refusal, yields, refuses, in_band, digit_of_level, digit_of, digit_in, mark_in, fault_in, reading_at, faults, frame_read, erased_read, read_byte_of, read_frame_of}
+use Rattle.receiving.specs.Readings.{ReadingYield, digit, erased, refusal, yields, refuses, in_band, digit_of_level, digit_of, digit_in, fault_in, reading_at, faults, frame_read, erased_read, read_byte_of, read_frame_of}
 use Rattle.receiving.specs.declared.Reading.{Reading}
 use Rattle.receiving.specs.declared.Reading.TheVariants.{Level, Erased}
 

@@ -1,5 +1,3 @@
-use Prim.Native.Nat.{◌-◌}
-use mathlib.Core.Logic.{⊎_elim}
 use native.Mathlib.Nat.{le_antisymm}
 use native.Mathlib.Omega.{arith}
 use Rattle.burst_vote.proofs.Sorting.{none-sorted, joined, listed}
@@ -14,8 +12,8 @@ loop-q-preserved c =
     let l = c.loop-q in (
       omega arith,
       elim c.if-joins.branch [
-        then-joins w ↦ rw (w.several-is, w.alone-is, w.left-is) (joined l.invariant.1 (c.joins.ensures w.if-joins.true))
-      | else-joins w ↦ rw (w.several-is, w.alone-is, w.left-is) (listed l.invariant.1 (omega arith) (omega arith))
+        | then-joins w ↦ rw (w.several-is, w.alone-is, w.left-is) (joined l.invariant.1 (c.joins.ensures w.if-joins.true))
+        | else-joins w ↦ rw (w.several-is, w.alone-is, w.left-is) (listed l.invariant.1 (omega arith) (omega arith))
       ],
     )
 

@@ -1,5 +1,4 @@
 use mathlib.Core.Path.{sym, ap, ◌∙◌}
-use mathlib.Core.Logic.{⊎_elim}
 use lib.Ieee.{of_bits, neg, div}
 use Rattle.receiving.specs.Readings.{digit_of}
 use Rattle.receiving.proofs.Levels.{at-least-quarter, at_most-minus_quarter, between, not-below-infinity, not-above-minus-infinity}
@@ -31,6 +30,6 @@ returns-else-level-infinite c =
     sym
     (ap digit_of c.in-Level.is
     ∙ elim c.else-level-infinite.branch [
-        else-level-infinite-via-then-level-infinite+else-level-infinite-2 w ↦ not-above-minus-infinity c.in-Level.level w.if-level-infinite-2.false
+      | else-level-infinite-via-then-level-infinite+else-level-infinite-2 w ↦ not-above-minus-infinity c.in-Level.level w.if-level-infinite-2.false
       | else-level-infinite-via-else-level-infinite w ↦ not-below-infinity c.in-Level.level w.if-level-infinite.false
-      ])
+    ])

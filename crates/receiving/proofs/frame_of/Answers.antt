@@ -1,6 +1,5 @@
-use Prim.Native.Nat.{◌-◌, ◌<◌}
+use Prim.Native.Nat.{◌<◌}
 use mathlib.Core.Path.{◌≡◌, sym, ap, ◌∙◌}
-use mathlib.Core.Logic.{⊎_elim}
 use native.Mathlib.Omega.{arith}
 use lib.Pow.{pow_mono}
 use Rattle.bits.proofs.Words.{placed-fits}
@@ -51,12 +50,12 @@ loop-s-preserved c =
     let hs : l.s < 32 = omega arith in (
       omega arith,
       elim c.match-yielded.branch [
-        in-Digit w ↦
-          rw (w.frame-is, w.marks-is, w.shift_up-frame.ensures)
-          (read-digit a.readings l.s l.frame l.marks l.invariant.1 hs w.in-Digit.digit (sym c.digit_of-yielded.ensures ∙ ap yield_of w.in-Digit.is))
-      | in-Erased w ↦
-          rw (w.frame-is, w.marks-is, w.shift_up-marks.ensures)
-          (read-erased a.readings l.s l.frame l.marks l.invariant.1 hs (sym c.digit_of-yielded.ensures ∙ ap yield_of w.in-Erased.is))
+        | in-Digit w ↦
+            rw (w.frame-is, w.marks-is, w.shift_up-frame.ensures)
+            (read-digit a.readings l.s l.frame l.marks l.invariant.1 hs w.in-Digit.digit (sym c.digit_of-yielded.ensures ∙ ap yield_of w.in-Digit.is))
+        | in-Erased w ↦
+            rw (w.frame-is, w.marks-is, w.shift_up-marks.ensures)
+            (read-erased a.readings l.s l.frame l.marks l.invariant.1 hs (sym c.digit_of-yielded.ensures ∙ ap yield_of w.in-Erased.is))
       ],
     )
 

@@ -15,10 +15,10 @@ pub returns-then-checks-lt2 : goal.returns-then-checks-lt2
 returns-then-checks-lt2 c =
     let a = c.args in
     let none : (a.checks < 2) ⊎ (7 < a.checks) =
-        elim c.then-checks-lt2.branch [
-          then-checks-lt2-via-then-checks-lt2 w ↦ inl w.if-checks-lt2.true
-        | then-checks-lt2-via-else-checks-lt2+then-checks-gt7 w ↦ inr w.if-checks-gt7.true
-        ]
+    elim c.then-checks-lt2.branch [
+      | then-checks-lt2-via-then-checks-lt2 w ↦ inl w.if-checks-lt2.true
+      | then-checks-lt2-via-else-checks-lt2+then-checks-gt7 w ↦ inr w.if-checks-gt7.true
+    ]
     in
     record { output_after = outside a.checks a.output.now none; standard_cards = standard-cards }
 
@@ -28,6 +28,9 @@ returns c =
     let a = c.args in
     let least = c.if-checks-lt2.false in
     let most = c.if-checks-gt7.false in
-    record { output_after = c.give.ensures
+    record {
+      output_after = c.give.ensures
           ∙ ap (λ bytes. fitted bytes a.output.now) (entry-is _ refl a.checks least most)
-          ∙ sym (within a.checks a.output.now least most); standard_cards = standard-cards }
+          ∙ sym (within a.checks a.output.now least most);
+      standard_cards = standard-cards;
+    }

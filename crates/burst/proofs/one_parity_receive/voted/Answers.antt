@@ -10,8 +10,11 @@ overflow_mul-index c = omega (arith, c.index.ensures, ones-le 32 c.args.held (om
 
 pub returns-then-index-least : goal.returns-then-index-least
 returns-then-index-least c =
-    let a = c.args in record { upper_bound = omega arith; by_index = λ number m g checks G sorted counted.
-          sym (few-held number g a.counts.now checks a.k m G a.held a.least (omega arith) counted (omega (arith, c.if-index-least.true, c.index.ensures))) }
+    let a = c.args in record {
+      upper_bound = omega arith;
+      by_index = λ number m g checks G sorted counted.
+          sym (few-held number g a.counts.now checks a.k m G a.held a.least (omega arith) counted (omega (arith, c.if-index-least.true, c.index.ensures)));
+    }
 
 pub returns : goal.returns
 returns c = record { upper_bound = sorted-small _ _ _ _ _ _ c.decide_sorted.ensures; by_index = λ number m g checks G sorted counted. c.decide_sorted.ensures ∙ sorted-decides _ checks _ _ _ _ _ sorted }

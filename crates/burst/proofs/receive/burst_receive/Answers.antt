@@ -21,19 +21,20 @@ returns-in-Accepted c =
     let accepted = ap outcome_of c.in-Accepted.is in
     let burst = c.receive_under in
     let both =
-        received a.card.now read.result read.ensures a.input.now a.output.now
-        (by_card a.card.now read.result read.ensures (λ card. receive_under card a.input.now a.output.now) a.output.now accepted
-        (outcome_is burst.result (receive_under card a.input.now a.output.now) burst.type_inv (burst.ensures card.number (read.ensures.guaranteed accepted))))
+    received a.card.now read.result read.ensures a.input.now a.output.now
+    (by_card a.card.now read.result read.ensures (λ card. receive_under card a.input.now a.output.now) a.output.now accepted
+    (outcome_is burst.result (receive_under card a.input.now a.output.now) burst.type_inv (burst.ensures card.number (read.ensures.guaranteed accepted))))
     in
     record { output_after = both.0; comes_out_as_sent = both.1 }
+
 pub returns-in-Refused : goal.returns-in-Refused
 unfolding receive_of
 returns-in-Refused c =
     let a = c.args in
     let read = c.read_card-read in
     let both =
-        received a.card.now read.result read.ensures a.input.now a.output.now
-        (refused-by_card a.card.now read.result read.ensures (λ card. receive_under card a.input.now a.output.now) a.output.now (ap outcome_of c.in-Refused.is)
-        (answer-is c.refused.result c.refused.type_inv c.refused.ensures))
+    received a.card.now read.result read.ensures a.input.now a.output.now
+    (refused-by_card a.card.now read.result read.ensures (λ card. receive_under card a.input.now a.output.now) a.output.now (ap outcome_of c.in-Refused.is)
+    (answer-is c.refused.result c.refused.type_inv c.refused.ensures))
     in
     record { output_after = both.0; comes_out_as_sent = both.1 }

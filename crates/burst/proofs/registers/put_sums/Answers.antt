@@ -1,4 +1,3 @@
-use Prim.Native.Nat.{◌-◌}
 use native.Mathlib.Omega.{arith}
 use Rattle.burst.proofs.Summing.{put-more, put_all}
 use Rattle.burst.proofs.registers.put_sums.Goals as goal

@@ -20,19 +20,20 @@ returns-in-Accepted c =
     let read = c.read_card-read in
     let answer = c.write_under in
     let both =
-        wrote-card a.card.now a.output.now
-        (by_card a.card.now read.result read.ensures (λ card. write_under card a.output.now) a.output.now (ap outcome_of c.in-Accepted.is)
-        (outcome_is answer.result (write_under read.result.card a.output.now) answer.type_inv answer.ensures))
+    wrote-card a.card.now a.output.now
+    (by_card a.card.now read.result read.ensures (λ card. write_under card a.output.now) a.output.now (ap outcome_of c.in-Accepted.is)
+    (outcome_is answer.result (write_under read.result.card a.output.now) answer.type_inv answer.ensures))
     in
     record { output_after = both.0; carries_on = both.1 }
+
 pub returns-in-Refused : goal.returns-in-Refused
 unfolding write_of
 returns-in-Refused c =
     let a = c.args in
     let read = c.read_card-read in
     let both =
-        wrote-card a.card.now a.output.now
-        (refused-by_card a.card.now read.result read.ensures (λ card. write_under card a.output.now) a.output.now (ap outcome_of c.in-Refused.is)
-        (answer-is c.refused.result c.refused.type_inv c.refused.ensures))
+    wrote-card a.card.now a.output.now
+    (refused-by_card a.card.now read.result read.ensures (λ card. write_under card a.output.now) a.output.now (ap outcome_of c.in-Refused.is)
+    (answer-is c.refused.result c.refused.type_inv c.refused.ensures))
     in
     record { output_after = both.0; carries_on = both.1 }

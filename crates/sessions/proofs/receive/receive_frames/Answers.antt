@@ -1,4 +1,3 @@
-use Prim.Native.Nat.{◌-◌}
 use native.Mathlib.Omega.{arith}
 use Rattle.receiving.specs.Answers.{answer_of}
 use Rattle.receiving.specs.Calls.{handed_by}

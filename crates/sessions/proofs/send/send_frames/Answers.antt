@@ -1,4 +1,3 @@
-use Prim.Native.Nat.{◌-◌}
 use native.Mathlib.Omega.{arith}
 use Rattle.encoder.specs.Calls.{given_by}
 use Rattle.encoder.specs.Outcome.{outcome_of}

@@ -10,8 +10,8 @@ returns c =
     let a = c.args in
     record {
       after_is = elim c.if-at-output.branch [
-        then-at-output w ↦ w.output-is
-      | else-at-output w ↦ w.output-is ∙ sym (set_out a.output.now a.at a.value w.if-at-output.false)
+        | then-at-output w ↦ w.output-is
+        | else-at-output w ↦ w.output-is ∙ sym (set_out a.output.now a.at a.value w.if-at-output.false)
       ];
       end_is = refl;
     }
