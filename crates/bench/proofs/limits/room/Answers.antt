@@ -2,11 +2,7 @@
 use mathlib.Core.Path.{sym}
 use lib.ListN.{length-replicate}
 use Rattle.code.specs.Code.{most_frames}
-use Rattle.bench.proofs.limits.room.Statement.{statement}
-use Rattle.bench.proofs.limits.room.Tie as tie
+use Rattle.bench.proofs.limits.room.Goals as goal
 
-returns : tie.Need-returns
+pub returns : goal.returns
 returns c = sym (length-replicate most_frames c.args.byte)
-
-pub room-spec : {M : Type 1} → statement M
-room-spec = tie.close (tie.spec returns)
