@@ -1,4 +1,3 @@
-use Prim.Native.Nat.{◌-◌}
 use Rattle.trace.proofs.records.tagged.Goals as goal
 
 pub byte-requires : goal.byte-requires
