@@ -69,12 +69,21 @@ def names():
     return spaced + dashed + odd + paths
 
 
+def readable(name, content):
+    """What can be read there: nothing where the name is not UTF-8, since the paths of the program's library are text."""
+    try:
+        name.decode()
+    except UnicodeDecodeError:
+        return None
+    return content
+
+
 def try_names(program):
     for what, contents in {"a good card": (GOOD, GOOD), "a bad one": (BAD, BAD), "the one or the other": (GOOD, BAD)}.items():
         files = [(name, contents[at % 2]) for at, name in enumerate(names())]
         for name, content in files:
             write(name, content)
-        hold_files("names of every kind, for " + what, program, files)
+        hold_files("names of every kind, for " + what, program, [(name, readable(name, content)) for name, content in files])
     hold_files("names from the root on", program, [(os.path.join(os.getcwdb(), name), content) for name, content in files[:5]])
     return len(files)
 
