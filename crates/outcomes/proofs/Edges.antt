@@ -16,7 +16,7 @@ use Rattle.outcomes.specs.Claims.{SentAs}
 -- a whole stream of information frames within their streams is sent as these if it is correctable
 sent-as : (c : Card) (info input : List ℕ) → sum_below (length info) (λ u. suc (get_or info u 0) - 2 ^ c.k) ≡ 0 → length input ≡ length info + c.m
     → Correctable c info input → SentAs c info input
-sent-as c info input small whole few = record { information = all-at_most _ _ _ small; whole = omega arith; correctable = few }
+sent-as c info input small whole few = record { information = all-at_most _ _ _ small; whole = whole; correctable = few }
 
 pub edges : Edges SentAs
 unfolding sum_below up_to
