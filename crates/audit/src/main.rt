@@ -3,6 +3,7 @@
 
 ghost use Rattle.std.specs.Prelude.{◌≡◌, ◌≤◌, length};
 
+use filling::Contents;
 use listing::auditing;
 use listing::auditing::{AUDIT_ROOM, Audited};
 use outcomes::MOST_CARD_BYTES;
@@ -13,41 +14,6 @@ use std::{fs, str};
 
 // As much of a file as decides: one byte more than the longest that is read as a card (`by_the_front` in the promise of `audit`).
 const FRONT: usize = MOST_CARD_BYTES + 1;
-
-// What came of reading a file: whether it was read to its end, or until the buffer was full, and how many bytes came.
-#[derive(Drop)]
-struct Contents {
-    whole: bool,
-    length: usize,
-}
-
-// Reads until the file ends or the buffer is full. A read that fails is no end.
-fn fill(file: &mut impl Read, buffer: &mut [u8]) -> Contents
-    ensures { result.length ≤ length buffer.new }
-{
-    let mut at = 0;
-    while at < buffer.len() {
-        match file.read(&mut buffer[at..]) {
-            Err(_) => {
-                return Contents {
-                    whole: false,
-                    length: at,
-                };
-            }
-            Ok(0) => {
-                return Contents {
-                    whole: true,
-                    length: at,
-                };
-            }
-            Ok(more) => at += more,
-        }
-    }
-    Contents {
-        whole: true,
-        length: at,
-    }
-}
 
 // Goes to a place of the file: how far from its start that is, if it can be asked for.
 fn place(file: &mut impl Seek, at: SeekFrom) -> Option<u64> {
@@ -61,7 +27,7 @@ fn read_open(file: &mut (impl Read + Seek), buffer: &mut [u8]) -> Contents
 {
     let before = place(file, SeekFrom::End(0));
     place(file, SeekFrom::Start(0));
-    let read = fill(file, buffer);
+    let read = filling::fill(file, buffer);
     let here = place(file, SeekFrom::Current(0));
     let after = place(file, SeekFrom::End(0));
     let stayed = before == after && (here == after || read.length == buffer.len());

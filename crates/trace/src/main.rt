@@ -5,28 +5,11 @@
 mod lines;
 mod records;
 
-ghost use Rattle.std.specs.Prelude.{◌≤◌, length};
-
 use card::Verdict;
 use outcomes::{MOST_CARD_BYTES, stated_length};
-use std::io::Read;
 
 // The longest input, and one byte to tell that there is more.
 const ROOM: usize = 65537;
-
-// Reads until the input ends or the buffer is full: the count of bytes, which stand at the buffer's front. A read that fails counts as the end.
-fn read_full(input: &mut impl Read, buffer: &mut [u8]) -> usize
-    ensures { result ≤ length buffer.new }
-{
-    let mut at = 0;
-    while at < buffer.len() {
-        match input.read(&mut buffer[at..]) {
-            Ok(more) if 0 < more => at += more,
-            _ => return at,
-        }
-    }
-    at
-}
 
 // Opens the sessions with the card, and goes through the records after it.
 fn trace(rt: &(impl Print + Eprint), input: &[u8]) {
@@ -58,9 +41,10 @@ fn trace(rt: &(impl Print + Eprint), input: &[u8]) {
     }
 }
 
+// A read that fails counts as the end of the input.
 fn main(rt: HostRuntime) {
     let mut space = [0u8; ROOM];
-    let length = read_full(&mut rt.stdin(), &mut space);
+    let length = filling::fill(&mut rt.stdin(), &mut space).length;
     if ROOM <= length {
         lines::too_long(&rt);
         return;
