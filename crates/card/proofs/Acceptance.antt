@@ -2,10 +2,11 @@
 -- and the promise of `read_card` from its equation with `read_under`.
 use Prim.Native.Nat.{ℕ, ◌≤◌, ◌<◌}
 use mathlib.Core.Path.{◌≡◌, sym, ap, subst, ◌∙◌}
+use Rattle.std.specs.Prelude.{Result}
 use mathlib.Core.List.{List}
 use native.Mathlib.Omega.{arith}
 use lib.ListN.{length, get_or}
-use Rattle.card.specs.Outcome.{CardOutcome, outcome_of, published}
+use Rattle.card.specs.Outcome.{CardOutcome, outcome_of, card_in, published}
 use Rattle.card.specs.Outcome.Outcome.{accepted}
 use Rattle.code.specs.Guarantees.{Guarantees}
 use Rattle.card.specs.Fields.{Fields, card_of}
@@ -13,7 +14,8 @@ use Rattle.card.specs.Reading.{read_fields, answer, read_under, read_card}
 use Rattle.card.specs.Reading.Read.{got}
 use Rattle.card.specs.Layout.{layout, longest_card, Acceptable}
 use Rattle.card.specs.Promise.{EqualCards, CardPromise}
-use Rattle.card.specs.declared.CardRead.{CardRead}
+use Rattle.code.specs.declared.Card.{Card}
+use Rattle.card.specs.declared.Fault.{Fault}
 use Rattle.card.specs.declared.CardRule.{CardRule}
 use Rattle.card.specs.declared.CardRule.TheVariants.{Former, Present}
 use Rattle.card.proofs.WholeReading.{accepted-read}
@@ -76,11 +78,11 @@ one_form bs bytes other small e v =
     }
 
 -- ---- the promise of `read_card`
-module _ (rule : CardRule) (bs : List ℕ) (r : CardRead) (bytes : (i : ℕ) → get_or bs i 0 < 256) (e : published r ≡ read_under rule bs) where
-  card-read : r.card ≡ (read_under rule bs).card
+module _ (rule : CardRule) (bs : List ℕ) (r : Result Card Fault) (bytes : (i : ℕ) → get_or bs i 0 < 256) (e : published r ≡ read_under rule bs) where
+  card-read : card_in r ≡ (read_under rule bs).card
   card-read = ap (λ (x : CardOutcome). x.card) e
 
-  outcome-read : outcome_of r.verdict ≡ accepted → (read_under rule bs).outcome ≡ accepted
+  outcome-read : outcome_of r ≡ accepted → (read_under rule bs).outcome ≡ accepted
   outcome-read v = sym (ap (λ (x : CardOutcome). x.outcome) e) ∙ v
 
   pub card-promise : CardPromise rule bs r

@@ -7,14 +7,12 @@ use lib.ListN.{length, replicate}
 use borrow.Author.Tests.{lt-ltb, le-ltb}
 use Rattle.code.specs.Limits.{check_words}
 use Rattle.card.specs.Refusals.{number_of}
-use Rattle.card.specs.Outcome.{outcome_of, published}
 use Rattle.card.specs.Outcome.Outcome.{accepted}
-use Rattle.card.specs.Fields.{Head, Stream, empty_card, store_rows, code_of, with_checks, card_of}
+use Rattle.card.specs.Fields.{Head, Stream, store_rows, code_of, with_checks, card_of}
 use Rattle.card.specs.Reading.{Read, read_mapped, read_head, read_generators, read_streams, read_fields, refused_card, read_under}
 use Rattle.card.specs.Reading.Read.{got, fault}
 use Rattle.card.specs.Parts.{read_by, sizes_of, code_by, Tables, tables_with}
 use Rattle.code.specs.declared.Card.{Card}
-use Rattle.card.specs.declared.CardRead.{CardRead}
 use Rattle.card.specs.declared.CardRule.{CardRule}
 use Rattle.card.specs.declared.Refusal.{Refusal}
 use Rattle.card.specs.declared.Verdict.{Verdict}
@@ -31,10 +29,6 @@ module _ {A B : Type 0} (f : A → B) (rd : Read A) (v : Verdict) (x : B) (at : 
   part-fault q = map-faulted f rd (sym e ∙ ap (λ v. read_by v x at) q)
 
 -- ---- the answer after each part
-pub refused-read : {r : CardRead} {v : Verdict} {x : Refusal} {o : ℕ} → r ≡ record { verdict = v; card = empty_card } → v ≡ Refused x o
-    → published r ≡ refused_card (number_of x) o
-refused-read e q = ap published e ∙ ap (λ (v : Verdict). record { outcome = outcome_of v; card = empty_card }) q
-
 module _ (rule : CardRule) (bs : List ℕ) where
   pub head-refused : {n o : ℕ} → read_head rule bs ≡ fault n o → refused_card n o ≡ read_under rule bs
   unfolding read_under read_fields

@@ -7,7 +7,6 @@ mod parts;
 
 ghost use Rattle.std.specs.Prelude.{◌≡◌};
 ghost use Rattle.card.specs.Refusals.{number_of};
-ghost use Rattle.card.specs.Fields.{empty_card};
 ghost use Rattle.card.specs.Promise.{CardPromise};
 
 use code::{CHECK_WORDS, Card, MOST_CHECKS};
@@ -15,27 +14,35 @@ use code::{CHECK_WORDS, Card, MOST_CHECKS};
 // No accepted card has more bytes: k 4 and n 8 stand, all sixteen generators, and for each stream J and the most checks, of four masks each.
 pub const LONGEST_CARD: usize = 5 + (2 + 4 * 16) + 4 * (1 + MOST_CHECKS * (1 + 4 * 4));
 
-// Why something is refused. Each case has its published number, by `refusal_number`.
-#[derive(Clone, Copy)]
+// Why something is refused, under its published number.
+#[derive(Clone, Copy, Debug, PartialEq, Eq)]
 pub enum Refusal {
-    CardCutShort,
-    KOutOfRange,
-    NOutOfRange,
-    MemoryAboveLimit,
-    MapBeyondStreams,
-    MaskOutOfRange,
-    CheckCountOutOfRange,
-    OwnDigitUntouched,
-    ErrorTouchedBefore,
-    BytesAfterChecks,
-    DigitBeyondStreams,
-    LevelNotFinite,
-    OutputTooShort,
-    OtherCardNumber,
-    TooManyFrames,
-    TailBegun,
-    TailSent,
-    DefaultStated,
+    CardCutShort = 1,
+    KOutOfRange = 2,
+    NOutOfRange = 3,
+    MemoryAboveLimit = 4,
+    MapBeyondStreams = 5,
+    MaskOutOfRange = 6,
+    CheckCountOutOfRange = 7,
+    OwnDigitUntouched = 8,
+    ErrorTouchedBefore = 9,
+    BytesAfterChecks = 10,
+    DigitBeyondStreams = 11,
+    LevelNotFinite = 12,
+    OutputTooShort = 13,
+    OtherCardNumber = 14,
+    TooManyFrames = 15,
+    TailBegun = 16,
+    TailSent = 17,
+    DefaultStated = 18,
+}
+
+impl From<Refusal> for u8 {
+    ghost from_gives = { λ refusal number. number ≡ number_of refusal };
+
+    fn from(refusal: Refusal) -> u8 {
+        refusal as u8
+    }
 }
 
 // Under which rule a card is read. A field that stands with its default is good under the former one, under which stored cards are read a last
@@ -53,100 +60,61 @@ pub enum Verdict {
     Refused { refusal: Refusal, offset: usize },
 }
 
-// The verdict, and the card that was read: the empty card where it is refused.
+// Where a card is refused, and why: at a byte offset.
+#[derive(Clone, Copy, Debug, PartialEq, Eq)]
+pub struct Fault {
+    pub refusal: Refusal,
+    pub offset: usize,
+}
+
+impl From<Fault> for Refusal {
+    ghost from_gives = { λ fault refusal. refusal ≡ fault.refusal };
+
+    fn from(fault: Fault) -> Refusal {
+        fault.refusal
+    }
+}
+
+// What opening a session comes to: whether its card is accepted, and the session. One that is opened with a refused card refuses every call.
 #[derive(Clone, Copy)]
-pub struct CardRead {
-    pub verdict: Verdict,
-    pub card: Card,
-}
-
-// The number under which a refusal is published.
-pub fn refusal_number(refusal: Refusal) -> u8
-    ensures { result ≡ number_of refusal }
-{
-    match refusal {
-        Refusal::CardCutShort => 1,
-        Refusal::KOutOfRange => 2,
-        Refusal::NOutOfRange => 3,
-        Refusal::MemoryAboveLimit => 4,
-        Refusal::MapBeyondStreams => 5,
-        Refusal::MaskOutOfRange => 6,
-        Refusal::CheckCountOutOfRange => 7,
-        Refusal::OwnDigitUntouched => 8,
-        Refusal::ErrorTouchedBefore => 9,
-        Refusal::BytesAfterChecks => 10,
-        Refusal::DigitBeyondStreams => 11,
-        Refusal::LevelNotFinite => 12,
-        Refusal::OutputTooShort => 13,
-        Refusal::OtherCardNumber => 14,
-        Refusal::TooManyFrames => 15,
-        Refusal::TailBegun => 16,
-        Refusal::TailSent => 17,
-        Refusal::DefaultStated => 18,
-    }
-}
-
-// A card that is refused.
-fn refused(verdict: Verdict) -> CardRead
-    ensures { result ≡ record { verdict = verdict; card = empty_card } }
-{
-    CardRead {
-        verdict,
-        card: parts::empty_card(),
-    }
+pub struct Opened<S> {
+    pub verdict: Result<(), Fault>,
+    pub session: S,
 }
 
 // A card read from its bytes, front to back; the first fault stops it.
-pub fn read_card(rule: CardRule, bytes: &[u8]) -> CardRead
+pub fn read_card(rule: CardRule, bytes: &[u8]) -> Result<Card, Fault>
     ensures { CardPromise rule bytes.now result }
 {
     let head = parts::read_head(rule, bytes);
-    let head_verdict = head.verdict;
-    if let Verdict::Refused {
-        refusal: _,
-        offset: _,
-    } = head_verdict
-    {
-        return refused(head_verdict);
+    if let Verdict::Refused { refusal, offset } = head.verdict {
+        return Err(Fault { refusal, offset });
     }
     let sizes = head.sizes;
     let mut generators = [0u32; 32];
     let code = parts::read_generators(bytes, head.at, sizes, &mut generators);
-    let code_verdict = code.verdict;
-    if let Verdict::Refused {
-        refusal: _,
-        offset: _,
-    } = code_verdict
-    {
-        return refused(code_verdict);
+    if let Verdict::Refused { refusal, offset } = code.verdict {
+        return Err(Fault { refusal, offset });
     }
     let mut counts = [0u32; 4];
     let mut checks = [0u32; CHECK_WORDS];
     let whole = checks::read_checks(bytes, code.at, sizes, &generators, &mut counts, &mut checks);
-    let verdict = whole.verdict;
-    if let Verdict::Refused {
-        refusal: _,
-        offset: _,
-    } = verdict
-    {
-        return refused(verdict);
+    if let Verdict::Refused { refusal, offset } = whole.verdict {
+        return Err(Fault { refusal, offset });
     }
     if whole.at < bytes.len() {
-        return refused(Verdict::Refused {
+        return Err(Fault {
             refusal: Refusal::BytesAfterChecks,
             offset: whole.at,
         });
     }
-    CardRead {
-        verdict: Verdict::Accepted,
-        card: Card {
-            number: sizes.number,
-            k: sizes.k,
-            p: sizes.p,
-            m: sizes.m,
-            generators,
-            counts,
-            checks,
-        },
-    }
+    Ok(Card {
+        number: sizes.number,
+        k: sizes.k,
+        p: sizes.p,
+        m: sizes.m,
+        generators,
+        counts,
+        checks,
+    })
 }
