@@ -10,14 +10,15 @@ use lib.Seq.{take_at}
 use lib.IntN.{ℤ, pos, neg_ℤ, pos-ne-negsuc}
 use lib.Signed.{mag}
 use borrow.Author.Tests.{lt-ltb, le-ltb}
+use Rattle.std.specs.Prelude.{Result}
 use Rattle.bits.specs.Digits.{any_beyond}
 use Rattle.bits.proofs.Cases.{le-or-lt}
 use Rattle.code.specs.Code.{most_frames, sent}
-use Rattle.card.specs.Outcome.{Outcome, accepted, refused, outcome_of, CardOutcome}
+use Rattle.card.specs.Outcome.{Outcome, accepted, refused, outcome_of, card_in, CardOutcome}
 use Rattle.card.specs.Promise.{CardPromise}
 use Rattle.card.specs.Reading.{read_card}
 use Rattle.code.specs.declared.Card.{Card}
-use Rattle.card.specs.declared.CardRead.{CardRead}
+use Rattle.card.specs.declared.Fault.{Fault}
 use Rattle.card.specs.declared.CardRule.TheVariants.{Present}
 use Rattle.code.proofs.Sent.{sent-length}
 use Rattle.outcomes.specs.Outcome.{BurstOutcome, outcome, refused_of, given_of, with_room, fitted, under_card}
@@ -87,15 +88,15 @@ module _ (c : Card) (input output : List ℕ) where
       under-sent b = rw (sent-length c input, le-ltb most_frames (length input + c.m) r, le-ltb (length output) (length input + c.m) o, b)
 
 -- ---- with the card's bytes, whatever the call comes to under a card
-module _ (bytes : List ℕ) (read : CardRead) (promise : CardPromise Present bytes read) (under : Card → BurstOutcome) (output : List ℕ) where
-  pub by_card : {burst : BurstOutcome} → outcome_of read.verdict ≡ accepted → burst ≡ under read.card
+module _ (bytes : List ℕ) (read : Result Card Fault) (promise : CardPromise Present bytes read) (under : Card → BurstOutcome) (output : List ℕ) where
+  pub by_card : {burst : BurstOutcome} → outcome_of read ≡ accepted → burst ≡ under (card_in read)
       → burst ≡ under_card (read_card bytes).outcome (under (read_card bytes).card) output
   unfolding under_card
   by_card e q =
-      q ∙ ap (λ (o : Outcome). under_card o (under read.card) output) (sym e)
+      q ∙ ap (λ (o : Outcome). under_card o (under (card_in read)) output) (sym e)
       ∙ ap (λ (r : CardOutcome). under_card r.outcome (under r.card) output) promise.is_read
 
-  pub refused-by_card : {answer : ℤ} {n at : ℕ} → outcome_of read.verdict ≡ refused n at → answer ≡ neg_ℤ (pos n)
+  pub refused-by_card : {answer : ℤ} {n at : ℕ} → outcome_of read ≡ refused n at → answer ≡ neg_ℤ (pos n)
       → outcome answer output ≡ under_card (read_card bytes).outcome (under (read_card bytes).card) output
   unfolding under_card
   refused-by_card {n = n} e q =

@@ -8,6 +8,7 @@ use lib.ListN.{length, drop, take}
 use lib.Seq.{take_at}
 use lib.IntN.{ℤ}
 use borrow.Author.Tests.{lt-ltb, le-ltb}
+use Rattle.std.specs.Prelude.{Result}
 use Rattle.bits.specs.Digits.{any_beyond}
 use Rattle.code.specs.Code.{most_frames}
 use Rattle.code.specs.Guarantees.{Guarantees}
@@ -15,7 +16,7 @@ use Rattle.card.specs.Outcome.{Outcome, accepted, CardOutcome}
 use Rattle.card.specs.Promise.{CardPromise}
 use Rattle.card.specs.Reading.{read_card}
 use Rattle.code.specs.declared.Card.{Card}
-use Rattle.card.specs.declared.CardRead.{CardRead}
+use Rattle.card.specs.declared.Fault.{Fault}
 use Rattle.card.specs.declared.CardRule.TheVariants.{Present}
 use Rattle.majority.specs.Plain.{decoded}
 use Rattle.majority.proofs.Plain.{decoded-length}
@@ -46,7 +47,7 @@ module _ (c : Card) (input output : List ℕ) where
 -- ---- with the card's bytes
 
 -- what an accepted card guarantees, of the card by definition
-pub guaranteed : (bytes : List ℕ) (read : CardRead) → CardPromise Present bytes read → (read_card bytes).outcome ≡ accepted → Guarantees (read_card bytes).card
+pub guaranteed : (bytes : List ℕ) (read : Result Card Fault) → CardPromise Present bytes read → (read_card bytes).outcome ≡ accepted → Guarantees (read_card bytes).card
 guaranteed bytes read promise e =
     subst Guarantees (ap (λ (r : CardOutcome). r.card) promise.is_read) (promise.guaranteed (ap (λ (r : CardOutcome). r.outcome) promise.is_read ∙ e))
 
@@ -66,7 +67,7 @@ given-came-out frames output e =
     }
 
 -- the third term for a burst
-pub comes_out_as_sent : (bytes : List ℕ) (read : CardRead) → CardPromise Present bytes read → (input output : List ℕ) {answer : ℤ} {after : List ℕ}
+pub comes_out_as_sent : (bytes : List ℕ) (read : Result Card Fault) → CardPromise Present bytes read → (input output : List ℕ) {answer : ℤ} {after : List ℕ}
     → outcome answer after ≡ receive_of bytes input output → ComesOutAsSent bytes input output answer after
 comes_out_as_sent bytes read promise input output e info A S =
     let c = (read_card bytes).card in
@@ -76,7 +77,7 @@ comes_out_as_sent bytes read promise input output e info A S =
     ∙ ap (λ (l : List ℕ). given_of l output) (decoded-as-sent c G info input S.information (omega arith) S.correctable))
 
 -- both clauses of the promise
-pub received : (bytes : List ℕ) (read : CardRead) → CardPromise Present bytes read → (input output : List ℕ) {answer : ℤ} {after : List ℕ}
+pub received : (bytes : List ℕ) (read : Result Card Fault) → CardPromise Present bytes read → (input output : List ℕ) {answer : ℤ} {after : List ℕ}
     → outcome answer after ≡ receive_of bytes input output
     → (outcome answer after ≡ receive_of bytes input output) × ComesOutAsSent bytes input output answer after
 received bytes read promise input output e = (e, comes_out_as_sent bytes read promise input output e)

@@ -2,8 +2,21 @@
 -- output bytes are written.") and "Orders" ("A refused call hands back the number, .. and lent bytes unaltered"); and a card that is written,
 -- "as in a burst" (document 02, R-1).
 -- Assumes nothing.
-use Rattle.std.specs.Prelude.{ℕ, cond, List, ◌++◌, length, drop, ℤ, pos, neg_ℤ, ltb}
+use Rattle.std.specs.Prelude.{ℕ, cond, List, ◌++◌, length, drop, ℤ, pos, neg_ℤ, ltb, min, Result, Ok, Err}
 use Rattle.card.specs.Outcome.{Outcome, accepted, refused}
+use Rattle.card.specs.Refusals.{number_of}
+use Rattle.card.specs.declared.Refusal.{Refusal}
+use Rattle.code.specs.Code.{most_frames}
+
+-- the answer of a call: the count of what was written, or minus the refusal's number
+abbrev pub answer_of : Result ℕ Refusal → ℤ
+answer_of (Ok count) = pos count
+answer_of (Err refusal) = neg_ℤ (pos (number_of refusal))
+
+-- with a count held to the most frames of a stream
+abbrev pub held : Result ℕ Refusal → Result ℕ Refusal
+held (Ok count) = Ok (min count most_frames)
+held (Err refusal) = Err refusal
 
 -- the answer, and the output bytes as the call leaves them
 pub record BurstOutcome : Type 0 where

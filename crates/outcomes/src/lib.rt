@@ -7,8 +7,6 @@ pub mod answer;
 ghost use Rattle.std.specs.Prelude.{◌≡◌};
 ghost use Rattle.outcomes.specs.Listing.{stated_length};
 
-use bits::size;
-
 // The most bytes of a card that is listed or traced, by its stated length, or written anew, by its bytes.
 pub const MOST_CARD_BYTES: usize = 2048;
 
@@ -16,8 +14,8 @@ pub const MOST_CARD_BYTES: usize = 2048;
 pub fn stated_length(input: &[u8]) -> usize
     ensures { result ≡ stated_length input.now }
 {
-    if input.len() < 2 {
+    let [low, high, ..] = input else {
         return 0;
-    }
-    size(input[0]) + size(input[1]) * 256
+    };
+    usize::from(*low) + usize::from(*high) * 256
 }
