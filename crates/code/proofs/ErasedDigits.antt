@@ -50,7 +50,6 @@ module _ (n : ℕ) (erased : List ℕ) where
     -- the marks of the frame of time t, put in at their place
     pub erased-next : (place f : ℕ) → u + place ≡ t → place < 32 → f ≡ get_or erased t 0
         → ErasedAt n erased u (suc t) (erased_with y any f place) (any_with any f place)
-    unfolding erased_with
     erased-next place f hp lp hf =
         ⊎_elim
         (λ (z : any_with any f place ≡ 0). rw (eq-eqb _ 0 z) (record { long = E.long; marks-are = still z; any-is = any_next }))
@@ -65,7 +64,6 @@ module _ (n : ℕ) (erased : List ℕ) where
       where
         any_next : (a : ℕ) → bit (any_with any f place) a ≡ held (λ v. min (get_or erased v 0) 1) u (suc t) a
         any_next a =
-            unfold any_with in
             put_in (λ v. min (get_or erased v 0) 1) u t any E.any-is (min f 1) place (ap (λ (x : ℕ). min x 1) hf) (omega arith) hp lp a
 
         -- no digit was erased, and none is
@@ -80,7 +78,6 @@ module _ (n : ℕ) (erased : List ℕ) where
         still z s a l = E.marks-are s a l ∙ before s a z
 
     pub erased-moved : ErasedAt n erased (suc u) t (erased_moved y any) (any / 2)
-    unfolding erased_moved
     erased-moved =
         ⊎_elim
         (λ (z : any ≡ 0). rw (eq-eqb _ 0 z) (record { long = E.long; marks-are = still z; any-is = any-moved }))

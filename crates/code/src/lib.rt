@@ -40,17 +40,19 @@ pub struct Sizes {
     pub m: usize,
 }
 
-// The sizes of a card, its streams held to what the tables have. Those of an accepted card are its own.
-pub fn sizes_of(k: usize, p: usize, m: usize) -> Sizes
-    ensures { result ≡ sizes_of k p m }
-{
-    let streams = bits::at_most(k, 4);
-    let parities = bits::at_most(p, 8 - streams);
-    Sizes {
-        k: streams,
-        p: parities,
-        n: streams + parities,
-        m,
+impl Card {
+    // The sizes of the card, its streams held to what the tables have. Those of an accepted card are its own.
+    pub fn sizes(&self) -> Sizes
+        ensures { result ≡ sizes_of self.now.k self.now.p self.now.m }
+    {
+        let k = self.k.min(4);
+        let p = self.p.min(8 - k);
+        Sizes {
+            k,
+            p,
+            n: k + p,
+            m: self.m,
+        }
     }
 }
 

@@ -12,6 +12,7 @@ ghost use Rattle.code.specs.Limits.{most_checks, check_words};
 ghost use Rattle.vote.specs.Voters.{all_voting, decide_voters, decide_marked};
 ghost use Rattle.vote.specs.Voting.{check_by, all_by, ones_by, stream_ones_by, decide_by};
 
+use code::erased::Erased;
 use code::{CHECK_STRIDE, CHECK_WORDS, MOST_CHECKS, Sizes};
 
 // The digits that are 1 in both.
@@ -135,22 +136,21 @@ pub fn decide<'a>(
     errors
 }
 
-// The decided errors of a frame where digits may be erased: `any` is 0 while none is, and all checks vote then.
+// The decided errors of a frame where digits may be erased. While none is, all checks vote.
 pub fn decide_marked<'a>(
     generators: &'a [u32],
     counts: &'a [u32],
     checks: &'a [u32],
     syndromes: &[u32],
-    erased: &[u32],
-    any: u32,
+    erased: &Erased,
     sizes: Sizes,
 ) -> u32
-    ensures { result ≡ decide_marked generators.now counts.now checks.now syndromes.now erased.now any sizes }
+    ensures { result ≡ decide_marked generators.now counts.now checks.now syndromes.now erased.now.registers erased.now.any sizes }
 {
-    if any == 0 {
+    if erased.any == 0 {
         return decide_all(counts, checks, syndromes, sizes.k, sizes.p);
     }
-    let voters = voters::voting(generators, counts, checks, erased, any, sizes.k, sizes.p);
+    let voters = voters::voting(generators, counts, checks, erased, sizes);
     decide(
         &voters.words,
         &voters.counts,

@@ -5,7 +5,8 @@ ghost use Rattle.std.specs.Prelude.{◌≡◌, ◌<◌, drop};
 ghost use Rattle.code.specs.Limits.{most_checks};
 ghost use Rattle.vote.specs.Voters.{voting_by, stream_voters_by, all_voting, voters_by, voters_of};
 
-use code::{CHECK_STRIDE, MOST_CHECKS};
+use code::erased::Erased;
+use code::{CHECK_STRIDE, MOST_CHECKS, Sizes};
 
 // The checks that vote, a word for each stream, and how many they are.
 #[derive(Clone, Copy)]
@@ -90,20 +91,18 @@ fn stream_voters<'a>(
     word
 }
 
-// The checks that vote. `any` is 0 while nothing is erased: the registers of erased digits are not looked at then.
+// The checks that vote. While nothing is erased the registers of erased digits are not looked at.
 pub fn voting<'a>(
     generators: &'a [u32],
     counts: &'a [u32],
     checks: &'a [u32],
-    erased: &[u32],
-    any: u32,
-    k: usize,
-    p: usize,
+    erased: &Erased,
+    sizes: Sizes,
 ) -> Voters
-    ensures { result ≡ voters_of (voters_by generators.now counts.now checks.now erased.now any k p) }
+    ensures { result ≡ voters_of (voters_by generators.now counts.now checks.now erased.now.registers erased.now.any sizes.k sizes.p) }
 {
-    let all = all_voting(counts, k);
-    if any == 0 {
+    let all = all_voting(counts, sizes.k);
+    if erased.any == 0 {
         return all;
     }
     let every = all.words;
@@ -111,7 +110,15 @@ pub fn voting<'a>(
     let mut numbers = [0u32; 4];
     let mut i = 0;
     while i < 4 {
-        let some = stream_voters(generators, checks, erased, k, p, i, every[i]);
+        let some = stream_voters(
+            generators,
+            checks,
+            &erased.registers,
+            sizes.k,
+            sizes.p,
+            i,
+            every[i],
+        );
         words[i] = some;
         numbers[i] = u32::count_ones(some);
         i += 1;

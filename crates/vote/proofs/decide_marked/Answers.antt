@@ -5,9 +5,9 @@ use Rattle.vote.specs.Voting.{decide_by}
 use Rattle.vote.specs.declared.voters.Voters.{Voters}
 use Rattle.vote.proofs.decide_marked.Goals as goal
 
-pub returns-then-any-eq0 : goal.returns-then-any-eq0
+pub returns-then-erased-eq0 : goal.returns-then-erased-eq0
 unfolding decide_marked voters_by
-returns-then-any-eq0 c = rw (eq-eqb _ 0 c.if-any-eq0.true) c.decide_all.ensures
+returns-then-erased-eq0 c = rw (eq-eqb _ 0 c.if-erased-eq0.true) c.decide_all.ensures
 
 pub returns : goal.returns
 unfolding decide_marked

@@ -12,9 +12,9 @@ use Rattle.vote.specs.declared.voters.Voters.{Voters}
 use Rattle.vote.proofs.WhoVotes.{counts_of}
 use Rattle.vote.proofs.voters.voting.Goals as goal
 
-pub returns-then-any-eq0 : goal.returns-then-any-eq0
+pub returns-then-erased-eq0 : goal.returns-then-erased-eq0
 unfolding voters_by
-returns-then-any-eq0 c = rw (eq-eqb _ 0 c.if-any-eq0.true) c.all_voting-all.ensures
+returns-then-erased-eq0 c = rw (eq-eqb _ 0 c.if-erased-eq0.true) c.all_voting-all.ensures
 
 pub loop-i-init : goal.loop-i-init
 unfolding up_to
@@ -37,7 +37,7 @@ returns c =
     let v = c.loop-i.invariant in
     let a = c.args in
     let every = ap (λ (x : Voters). x.words) c.all_voting-all.ensures in
-    let some : List ℕ → ℕ → ℕ = λ all b. stream_voters_by a.generators.now a.checks.now a.erased.now a.k a.p b (get_or all b 0) in
-    rw (ne_eqb _ 0 c.if-any-eq0.false)
+    let some : List ℕ → ℕ → ℕ = λ all b. stream_voters_by a.generators.now a.checks.now a.erased.now.registers a.sizes.k a.sizes.p b (get_or all b 0) in
+    rw (ne_eqb _ 0 c.if-erased-eq0.false)
     (ap₂ (λ (w n : List ℕ). record { words = w; counts = n }) (fill_end _ _ _ _ v.1 v.0 c.loop-i-test.false v.2) (fill_end _ _ _ _ v.3 v.0 c.loop-i-test.false v.4)
     ∙ counts_of (some c.all_voting-all.result.words) ∙ ap (λ (all : List ℕ). voters_of (up_to 4 (some all))) every)

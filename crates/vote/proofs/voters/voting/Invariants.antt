@@ -9,8 +9,8 @@ use Rattle.vote.proofs.voters.voting.Given as goal
 
 abbrev pub invariant-loop-i : goal.invariant-loop-i
 invariant-loop-i l =
-    (l.i ≤ 4) × (length l.words ≡ 4) × (take l.i l.words ≡ up_to l.i (λ b. stream_voters_by l.generators l.checks l.erased l.k l.p b (get_or l.every b 0))) × (length l.numbers ≡ 4)
-    × (take l.i l.numbers ≡ up_to l.i (λ b. ones (stream_voters_by l.generators l.checks l.erased l.k l.p b (get_or l.every b 0))))
+    (l.i ≤ 4) × (length l.words ≡ 4) × (take l.i l.words ≡ up_to l.i (λ b. stream_voters_by l.generators l.checks l.erased.registers l.sizes.k l.sizes.p b (get_or l.every b 0))) × (length l.numbers ≡ 4)
+    × (take l.i l.numbers ≡ up_to l.i (λ b. ones (stream_voters_by l.generators l.checks l.erased.registers l.sizes.k l.sizes.p b (get_or l.every b 0))))
 
 abbrev pub decreases-loop-i : goal.decreases-loop-i
 decreases-loop-i l = 4 - l.i
