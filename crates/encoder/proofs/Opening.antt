@@ -2,14 +2,15 @@
 use Prim.Native.Nat.{ℕ}
 use mathlib.Core.Path.{◌≡◌, refl, sym, ap, ◌∙◌, subst}
 use mathlib.Core.List.{List}
-use Rattle.card.specs.Outcome.{Outcome, accepted, refused, outcome_of, CardOutcome}
+use Rattle.card.specs.Outcome.{Outcome, accepted, refused, CardOutcome}
 use Rattle.card.specs.Promise.{CardPromise}
 use Rattle.card.specs.Reading.{read_card}
-use Rattle.code.specs.Code.{most_frames}
 use Rattle.code.specs.declared.Card.{Card}
-use Rattle.card.specs.declared.CardRead.{CardRead}
+use Rattle.card.specs.declared.Fault.{Fault}
 use Rattle.card.specs.declared.CardRule.TheVariants.{Present}
-use Rattle.card.proofs.RefusedCard.{not-both, refused-card}
+use Rattle.card.proofs.RefusedCard.{not-both}
+use Rattle.card.specs.Refusals.{number_of}
+use Rattle.std.specs.Prelude.{Ok, Err}
 use Rattle.encoder.specs.Claims.{Claims}
 use Rattle.encoder.specs.Opening.{closed, session_for, Closed, OpenPromise}
 use Rattle.encoder.specs.Sending.{unsent_of, open_of}
@@ -21,31 +22,27 @@ closed-refuses : Closed closed
 unfolding closed
 closed-refuses = record { information_refused = λ f. send-full closed f refl refl; tail_refused = tail-out closed refl }
 
-module _ (bytes : List ℕ) (read : CardRead) (promise : CardPromise Present bytes read) (s : Session) where
-  outcome_is : outcome_of read.verdict ≡ (read_card bytes).outcome
-  outcome_is = ap (λ (r : CardOutcome). r.outcome) promise.is_read
-
-  card_is : read.card ≡ (read_card bytes).card
-  card_is = ap (λ (r : CardOutcome). r.card) promise.is_read
-
-  pub opened-accepted : outcome_of read.verdict ≡ accepted → s ≡ unsent_of read.card 0 → OpenPromise bytes (record { verdict = read.verdict; session = s })
+module _ (bytes : List ℕ) (s : Session) where
+  pub opened-accepted : {card : Card} → CardPromise Present bytes (Ok card) → s ≡ unsent_of card 0 → OpenPromise bytes (record { verdict = Ok tt; session = s })
   unfolding session_for open_of
-  opened-accepted e q =
+  opened-accepted {card} promise q =
+      let accepts : accepted ≡ (read_card bytes).outcome = ap (λ (r : CardOutcome). r.outcome) promise.is_read in
+      let card_is : card ≡ (read_card bytes).card = ap (λ (r : CardOutcome). r.card) promise.is_read in
       let own : s ≡ open_of (read_card bytes).card = q ∙ ap open_of card_is in
       record {
-        verdict_is = outcome_is;
-        session_is = own ∙ ap (λ (o : Outcome). session_for o (read_card bytes).card) (sym e ∙ outcome_is);
-        claims = λ w. subst (Claims (read_card bytes).card) (sym own) (subst (λ (c : Card). Claims c (open_of c)) card_is (calls-follow-code read.card (promise.guaranteed e)));
-        shut = λ n offset w. absurd (not-both e w);
+        verdict_is = accepts;
+        session_is = own ∙ ap (λ (o : Outcome). session_for o (read_card bytes).card) accepts;
+        claims = λ w. subst (Claims (read_card bytes).card) (sym own) (subst (λ (c : Card). Claims c (open_of c)) card_is (calls-follow-code card (promise.guaranteed refl)));
+        shut = λ n offset w. absurd (not-both refl w);
       }
 
-  pub opened-refused : {n at : ℕ} → outcome_of read.verdict ≡ refused n at → s ≡ unsent_of read.card most_frames → OpenPromise bytes (record { verdict = read.verdict; session = s })
-  unfolding session_for closed
-  opened-refused e q =
-      let own : s ≡ closed = q ∙ ap (λ (c : Card). unsent_of c most_frames) (card_is ∙ refused-card Present bytes (sym outcome_is ∙ e)) in
+  pub opened-refused : {fault : Fault} → CardPromise Present bytes (Err fault) → s ≡ closed → OpenPromise bytes (record { verdict = Err fault; session = s })
+  unfolding session_for
+  opened-refused {fault} promise own =
+      let refuses : refused (number_of fault.refusal) fault.offset ≡ (read_card bytes).outcome = ap (λ (r : CardOutcome). r.outcome) promise.is_read in
       record {
-        verdict_is = outcome_is;
-        session_is = own ∙ ap (λ (o : Outcome). session_for o (read_card bytes).card) (sym e ∙ outcome_is);
-        claims = λ w. absurd (not-both w e);
+        verdict_is = refuses;
+        session_is = own ∙ ap (λ (o : Outcome). session_for o (read_card bytes).card) refuses;
+        claims = λ w. absurd (not-both w refl);
         shut = λ n offset w. subst Closed (sym own) closed-refuses;
       }

@@ -9,7 +9,7 @@ use Rattle.code.specs.Code.{most_frames}
 use Rattle.code.specs.declared.Card.{Card}
 use Rattle.encoder.specs.Claims.{Claims}
 use Rattle.encoder.specs.Sending.{unsent_of, open_of, refused_of, send_of, send_tail_of}
-use Rattle.encoder.specs.declared.Opened.{Opened}
+use Rattle.card.specs.declared.Opened.{Opened}
 use Rattle.encoder.specs.declared.Session.{Session}
 
 -- the session of a refused opening: the empty card, and no room for a frame
@@ -26,7 +26,7 @@ pub record Closed (s : Session) : Type 0 where
   pub information_refused : (f : ℕ) → send_of s f ≡ refused_of s 15
   pub tail_refused : send_tail_of s ≡ refused_of s 17
 
-pub record OpenPromise (bytes : List ℕ) (r : Opened) : Type 0 where
+pub record OpenPromise (bytes : List ℕ) (r : Opened Session) : Type 0 where
   -- the verdict of card reading, its number and offset, for every slice
   pub verdict_is : outcome_of r.verdict ≡ (read_card bytes).outcome
   pub session_is : r.session ≡ session_for (read_card bytes).outcome (read_card bytes).card

@@ -3,13 +3,10 @@
 -- these are. A card that no reading gave is held to the tables: four information streams, a memory of 31.
 -- Assumes nothing.
 use Rattle.std.specs.Prelude.{ℕ, ◌+◌, ◌^◌, min, Bool, cond, List, replicate, leb, ltb}
-use Rattle.card.specs.Refusals.{number_of}
 use Rattle.code.specs.Code.{most_frames}
 use Rattle.code.specs.Registers.{history_by, frame_by}
 use Rattle.code.specs.declared.Card.{Card}
 use Rattle.encoder.specs.Outcome.{frame, refused, SendOutcome}
-use Rattle.encoder.specs.declared.Admission.{Admission}
-use Rattle.encoder.specs.declared.Admission.TheVariants.{Taken, Refused}
 use Rattle.encoder.specs.declared.Session.{Session}
 
 -- a session before its first frame, with n information frames counted as taken
@@ -55,11 +52,6 @@ digit_beyond s f = leb (2 ^ min s.card.k 4) f
 -- 17: "all m tail frames are out; at m = 0 the first tail call"
 abbrev pub tail_out : Session → Bool
 tail_out s = leb (min s.card.m 31) s.tail
-
--- an information frame that is taken, as the last of n, or refused
-abbrev pub settled_of : Session → ℕ → Admission → SendOutcome
-settled_of s f (Taken n) = encoded_of s f n s.tail
-settled_of s f (Refused refusal) = refused_of s (number_of refusal)
 
 -- "sending information 16, 15, 11"
 unfoldable pub send_of : Session → ℕ → SendOutcome
