@@ -1,8 +1,6 @@
 // The checks of a card, after its generators.
 ghost use Rattle.std.specs.Prelude.{◌≡◌, ◌+◌, ◌<◌, ◌≤◌, length, replicate};
 ghost use Rattle.code.specs.Limits.{check_words};
-ghost use Rattle.orthogonal.specs.Judgements.{failure_number};
-ghost use Rattle.card.specs.Refusals.{number_of};
 ghost use Rattle.card.specs.Reading.{read_mapped, read_streams};
 ghost use Rattle.card.specs.Parts.{read_by, code_by, tables_with};
 
@@ -10,17 +8,6 @@ use crate::fields::FieldRead;
 use crate::parts::{PartRead, Sizes};
 use crate::{Refusal, Verdict, fields};
 use code::{CHECK_STRIDE, CHECK_WORDS, MOST_CHECKS};
-use orthogonal::{Failure, Judgement};
-
-// Why a check that fails is refused: the refusal of the failure's number.
-fn refusal_of(failure: Failure) -> Refusal
-    ensures { number_of result ≡ failure_number failure }
-{
-    match failure {
-        Failure::OwnDigitUntouched => Refusal::OwnDigitUntouched,
-        Failure::ErrorTouchedBefore => Refusal::ErrorTouchedBefore,
-    }
-}
 
 // The checks of every information stream, left at the first refusal, stored in the empty tables.
 pub(crate) fn read_checks(
@@ -84,9 +71,9 @@ pub(crate) fn read_checks(
                 rest = rest / 2;
             }
             let judgement = orthogonal::pass(generators, &masks, &mut touched, k, p, i);
-            if let Judgement::Fails(failure) = judgement {
+            if let Err(failure) = judgement {
                 verdict = Verdict::Refused {
-                    refusal: refusal_of(failure),
+                    refusal: Refusal::from(failure),
                     offset: place,
                 };
                 break 'card;

@@ -6,10 +6,12 @@ mod fields;
 mod parts;
 
 ghost use Rattle.std.specs.Prelude.{◌≡◌};
+ghost use Rattle.orthogonal.specs.Judgements.{failure_number};
 ghost use Rattle.card.specs.Refusals.{number_of};
 ghost use Rattle.card.specs.Promise.{CardPromise};
 
 use code::{CHECK_WORDS, Card, MOST_CHECKS};
+use orthogonal::Failure;
 
 // No accepted card has more bytes: k 4 and n 8 stand, all sixteen generators, and for each stream J and the most checks, of four masks each.
 pub const LONGEST_CARD: usize = 5 + (2 + 4 * 16) + 4 * (1 + MOST_CHECKS * (1 + 4 * 4));
@@ -42,6 +44,17 @@ impl From<Refusal> for u8 {
 
     fn from(refusal: Refusal) -> u8 {
         refusal as u8
+    }
+}
+
+impl From<Failure> for Refusal {
+    ghost from_gives = { λ failure refusal. number_of refusal ≡ failure_number failure };
+
+    fn from(failure: Failure) -> Refusal {
+        match failure {
+            Failure::OwnDigitUntouched => Refusal::OwnDigitUntouched,
+            Failure::ErrorTouchedBefore => Refusal::ErrorTouchedBefore,
+        }
     }
 }
 

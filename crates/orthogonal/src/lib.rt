@@ -10,18 +10,11 @@ ghost use Rattle.code.specs.Checks.{touches_info};
 ghost use Rattle.orthogonal.specs.Judgements.{judgement_number};
 ghost use Rattle.orthogonal.specs.Pass.{Touched, Clash, Passed, word_code, information_streams, parity_streams, first_masks};
 
-// Why a check does not stand. Each case has its published number, by `failure_number`.
-#[derive(Clone, Copy)]
+// Why a check does not stand, under its published number.
+#[derive(Clone, Copy, Debug, PartialEq, Eq)]
 pub enum Failure {
-    OwnDigitUntouched,
-    ErrorTouchedBefore,
-}
-
-// Whether a whole check stands.
-#[derive(Clone, Copy)]
-pub enum Judgement {
-    Stands,
-    Fails(Failure),
+    OwnDigitUntouched = 8,
+    ErrorTouchedBefore = 9,
 }
 
 // The errors of an information stream that a check touches by way of one parity stream, every offset at once: its mask there, moved down by each
@@ -32,8 +25,8 @@ fn through_terms(mask: u32, generator: u32) -> u32
     let mut sum: u32 = 0;
     let mut rest = generator;
     while 0 < rest {
-        sum = sum ^ mask >> u32::trailing_zeros(rest);
-        rest = rest & rest - 1;
+        sum ^= mask >> rest.trailing_zeros();
+        rest &= rest - 1;
     }
     sum
 }
@@ -44,11 +37,9 @@ fn information_errors(generators: &[u32], masks: &[u32], p: usize, s: usize) -> 
     ensures { (b : ℕ) → b < 32 → bit result b ≡ touches_info (word_code generators.now 0 p) (first_masks p masks.now) b s }
 {
     let mut sum: u32 = 0;
-    let mut j = 0;
-    while j < p {
+    for j in 0..p {
         let generator = bits::word(generators, s * 8 + j);
-        sum = sum ^ through_terms(bits::word(masks, j), generator);
-        j += 1;
+        sum ^= through_terms(bits::word(masks, j), generator);
     }
     sum
 }
@@ -58,8 +49,8 @@ fn information_errors(generators: &[u32], masks: &[u32], p: usize, s: usize) -> 
 pub fn touched(generators: &[u32], masks: &[u32], k: usize, p: usize, s: usize) -> u32
     ensures { Touched (word_code generators.now (information_streams k) (parity_streams k p)) (first_masks (parity_streams k p) masks.now) s result }
 {
-    let streams = bits::at_most(k, 8);
-    let parities = bits::at_most(p, 8 - streams);
+    let streams = k.min(8);
+    let parities = p.min(8 - streams);
     if s < streams {
         return information_errors(generators, masks, parities, s);
     }
@@ -78,17 +69,12 @@ pub fn clash(errors: u32, before: u32, i: usize, s: usize) -> u32
     if s == i { both - both % 2 } else { both }
 }
 
-// The errors of the first streams added to those touched.
-fn add_errors(touched: &mut [u32], errors: &[u32; 8], streams: usize)
-    requires { (streams ≤ 8) × (length touched.old ≡ 8) }
-    ensures { touched.new ≡ up_to streams (λ s. bit_or (get_or touched.old s 0) (get_or errors.now s 0)) ++ drop streams touched.old }
+// The errors of a check added, stream by stream, to those touched.
+fn add_errors(touched: &mut [u32; 8], errors: &[u32; 8])
+    ensures { touched.new ≡ up_to 8 (λ s. bit_or (get_or touched.old s 0) (get_or errors.now s 0)) }
 {
-    let mut s = 0;
-    while s < streams {
-        let before = touched[s];
-        let more = errors[s];
-        touched[s] = before | more;
-        s += 1;
+    for (s, before) in touched.iter_mut().enumerate() {
+        *before |= errors[s];
     }
 }
 
@@ -102,28 +88,26 @@ pub fn pass(
     k: usize,
     p: usize,
     i: usize,
-) -> Judgement
+) -> Result<(), Failure>
     ensures { Passed (word_code generators.now (information_streams k) (parity_streams k p)) i (first_masks (parity_streams k p) masks.now)
         touched.old (judgement_number result) touched.new }
 {
-    let streams = bits::at_most(k, 8);
-    let n = streams + bits::at_most(p, 8 - streams);
+    let streams = k.min(8);
+    let n = streams + p.min(8 - streams);
     let mut errors = [0u32; 8];
     let mut again: u32 = 0;
-    let mut s = 0;
-    while s < n {
+    for s in 0..n {
         let touches = crate::touched(generators, masks, k, p, s);
-        again = again | clash(touches, touched[s], i, s);
+        again |= clash(touches, touched[s], i, s);
         errors[s] = touches;
-        s += 1;
     }
     let own = bits::word(&errors, i) % 2;
     if own == 0 {
-        return Judgement::Fails(Failure::OwnDigitUntouched);
+        return Err(Failure::OwnDigitUntouched);
     }
     if 0 < again {
-        return Judgement::Fails(Failure::ErrorTouchedBefore);
+        return Err(Failure::ErrorTouchedBefore);
     }
-    add_errors(touched, &errors, n);
-    Judgement::Stands
+    add_errors(touched, &errors);
+    Ok(())
 }

@@ -17,28 +17,28 @@ for-streams masks k p e q T = rw (q, e) at T
 pub returns-then-s-streams : goal.returns-then-s-streams
 returns-then-s-streams c =
     let a = c.args in
-    for-streams a.masks.now a.k a.p c.at_most-streams.ensures c.at_most-parities.ensures
+    for-streams a.masks.now a.k a.p c.min-streams.ensures c.min-parities.ensures
     (record {
       touches_are = λ b l.
-          touches-information a.generators.now a.masks.now c.at_most-streams.result c.at_most-parities.result b a.s c.if-s-streams.true (c.information_errors.ensures b l);
+          touches-information a.generators.now a.masks.now c.min-streams.result c.min-parities.result b a.s c.if-s-streams.true (c.information_errors.ensures b l);
     })
 
 pub returns-then-s-streams-2 : goal.returns-then-s-streams-2
 returns-then-s-streams-2 c =
     let a = c.args in
-    for-streams a.masks.now a.k a.p c.at_most-streams.ensures c.at_most-parities.ensures
+    for-streams a.masks.now a.k a.p c.min-streams.ensures c.min-parities.ensures
     (record {
       touches_are = λ b l.
           ap (λ x. bit x b) c.word.ensures
-          ∙ touches-parity a.generators.now a.masks.now c.at_most-streams.result c.at_most-parities.result b a.s c.if-s-streams.false (omega arith);
+          ∙ touches-parity a.generators.now a.masks.now c.min-streams.result c.min-parities.result b a.s c.if-s-streams.false (omega arith);
     })
 
 pub returns-else-s-streams-2 : goal.returns-else-s-streams-2
 returns-else-s-streams-2 c =
     let a = c.args in
-    for-streams a.masks.now a.k a.p c.at_most-streams.ensures c.at_most-parities.ensures
+    for-streams a.masks.now a.k a.p c.min-streams.ensures c.min-parities.ensures
     (record {
       touches_are = λ b l.
           bit-of-zero b
-          ∙ sym (touches-beyond a.generators.now a.masks.now c.at_most-streams.result c.at_most-parities.result b a.s (omega arith));
+          ∙ sym (touches-beyond a.generators.now a.masks.now c.min-streams.result c.min-parities.result b a.s (omega arith));
     })

@@ -107,9 +107,9 @@ returns-in_default-mask_read c =
     refused-by _ _ c.verdict_of-verdict-in_default-mask_read.ensures told
     ∙ masks-stop c.loop-j.invariant c.loop-j-test.true (has-fault c.standing_mask-mask_read.ensures told)
 
-pub returns-in-Fails : goal.returns-in-Fails
-returns-in-Fails c =
+pub returns-in-Err : goal.returns-in-Err
+returns-in-Err c =
     let place : ℕ = c.loop-q.at in
-    ap (λ n. fault n place) c.refusal_of.ensures
-    ∙ check-stop c.loop-j.invariant c.loop-j-test.false c.pass-judgement.ensures (ap judgement_number c.in-Fails.is)
-    (failure-least c.in-Fails.failure)
+    ap (λ n. fault n place) c.from.ensures
+    ∙ check-stop c.loop-j.invariant c.loop-j-test.false c.pass-judgement.ensures (ap judgement_number c.in-Err.is)
+    (failure-least c.in-Err.failure)
