@@ -123,45 +123,28 @@ fn sorted_votes(alone: u32, several: &[u32; SEVERAL_WORDS], i: usize, left: usiz
     ones
 }
 
-// The decided errors of a frame, stream after stream.
-fn decide_streams<'a>(
-    counts: &'a [u32; 4],
-    alone: &'a [u32; 4],
-    several: &'a [u32; SEVERAL_WORDS],
-    left: &'a [usize; 4],
-    word: u32,
-    k: usize,
-) -> u32
-    ensures { result ≡ decide_sorted counts.now alone.now several.now left.now word k }
-{
-    let streams = bits::at_most(k, 4);
-    let mut errors: u32 = 0;
-    let mut i = 0;
-    while i < streams {
-        let others = bits::at_most(left[i], MOST_CHECKS);
-        let votes = sorted_votes(alone[i], several, i, others, word);
-        errors = errors + (more_than_half(count_of(counts, i), votes) << i);
-        i += 1;
-    }
-    errors
-}
-
-// The decided errors of a frame, bit i for stream i, by sorted checks on the word of its syndromes. More streams or checks than the tables have are
-// not looked at. One stream whose checks are of one syndrome each, as in every standard card, takes one count of ones.
-pub fn decide_sorted<'a>(
-    counts: &'a [u32; 4],
-    alone: &'a [u32; 4],
-    several: &'a [u32; SEVERAL_WORDS],
-    left: &'a [usize; 4],
-    word: u32,
-    k: usize,
-) -> u32
-    ensures { result ≡ decide_sorted counts.now alone.now several.now left.now word k }
-{
-    if k == 1 {
-        if left[0] == 0 {
-            return more_than_half(count_of(counts, 0), ones_in(alone[0], word));
+impl SortedChecks {
+    // The decided errors of a frame, stream after stream.
+    fn decide_streams(&self, counts: &[u32; 4], word: u32, k: usize) -> u32
+        ensures { result ≡ decide_sorted counts.now self.now.alone self.now.several self.now.left word k }
+    {
+        let mut errors: u32 = 0;
+        for i in 0..k.min(4) {
+            let left = self.left[i].min(MOST_CHECKS);
+            let votes = sorted_votes(self.alone[i], &self.several, i, left, word);
+            errors = errors + (more_than_half(count_of(counts, i), votes) << i);
         }
+        errors
     }
-    decide_streams(counts, alone, several, left, word, k)
+
+    // The decided errors of a frame, bit i for stream i, by the word of its syndromes. More streams or checks than the tables have are not looked at. One
+    // stream whose checks are of one syndrome each, as in every standard card, takes one count of ones.
+    pub fn decide(&self, counts: &[u32; 4], word: u32, k: usize) -> u32
+        ensures { result ≡ decide_sorted counts.now self.now.alone self.now.several self.now.left word k }
+    {
+        if k == 1 && self.left[0] == 0 {
+            return more_than_half(count_of(counts, 0), ones_in(self.alone[0], word));
+        }
+        self.decide_streams(counts, word, k)
+    }
 }
