@@ -2,12 +2,10 @@
 #![tactic(auto)]
 
 ghost use Rattle.std.specs.Prelude.{◌≡◌};
-ghost use Rattle.outcomes.specs.Outcome.{outcome, fitted};
-ghost use Rattle.writer.specs.Outcome.{answer_of};
+ghost use Rattle.outcomes.specs.Outcome.{outcome, answer_of, fitted};
 ghost use Rattle.standard.specs.Standard.{standard_of, StandardCards};
 
 use card::Refusal;
-use writer::CardWritten;
 
 // The bytes of the longest card, and so of a row of the table.
 const ROW: usize = 45;
@@ -29,25 +27,25 @@ const CARDS: [u8; 6 * ROW] = *b"\
     \x01\x01\x00\x00\x00\x01\x02\x00\x00\x00\x01\x08\x00\x00\x00\x01\x80\x00\x00\x00\x01\x00\x10\x00\x00\x01\x00\x00\x10\x00\x01\x00\x00\x00\x40";
 
 // The bytes, if the output has room for them all.
-fn give(bytes: &[u8], output: &mut [u8]) -> CardWritten
+fn give(bytes: &[u8], output: &mut [u8]) -> Result<usize, Refusal>
     ensures { outcome (answer_of result) output.new ≡ fitted bytes.now output.old }
 {
+    // `get_mut` would do for the room, but the check knows no byte of a slice that it lends.
     if output.len() < bytes.len() {
-        return CardWritten::Refused(Refusal::OutputTooShort);
+        return Err(Refusal::OutputTooShort);
     }
-    let count = bytes.len();
-    output[..count].copy_from_slice(bytes);
-    CardWritten::Count(count)
+    output[..bytes.len()].copy_from_slice(bytes);
+    Ok(bytes.len())
 }
 
 // Writes the standard card with this many checks: the count of bytes, or 13 where the output is too short. There is none of fewer than 2 or more
 // than 7 checks: the count is 0 then. Only that many bytes are written, and a refused call writes none.
-pub fn write_standard(checks: u32, output: &mut [u8]) -> CardWritten
+pub fn write_standard(checks: u32, output: &mut [u8]) -> Result<usize, Refusal>
     ensures output_after { outcome (answer_of result) output.new ≡ standard_of checks output.old }
     ensures standard_cards { StandardCards }
 {
     if checks < 2 || 7 < checks {
-        return CardWritten::Count(0);
+        return Ok(0);
     }
     let terms = checks as usize;
     let start = (terms - 2) * ROW;

@@ -5,6 +5,7 @@ use mathlib.Core.List.{List, [], ◌∷◌, ◌++◌}
 use native.Mathlib.Omega.{arith}
 use lib.ListN.{length, drop, length-append}
 use lib.IntN.{pos, neg_ℤ}
+use Rattle.std.specs.Prelude.{Err}
 use Rattle.code.specs.declared.Card.{Card}
 use Rattle.card.specs.Layout.{layout_head, layout_rows, layout_streams, layout}
 use Rattle.card.specs.Outcome.{Outcome, CardOutcome}
@@ -13,14 +14,13 @@ use Rattle.card.specs.Reading.{read_card}
 use Rattle.card.specs.Refusals.{number_of}
 use Rattle.card.specs.declared.Refusal.{Refusal}
 use Rattle.card.proofs.CardLength.{head-size}
-use Rattle.outcomes.specs.Outcome.{BurstOutcome, outcome, refused_of, given_of, under_card}
+use Rattle.outcomes.specs.Outcome.{BurstOutcome, outcome, answer_of, refused_of, given_of, under_card}
 use Rattle.outcomes.specs.Wrote.{Wrote}
 use Rattle.outcomes.proofs.Outcomes.{no-refusal, refused-is, given_is, fitted_short, fitted-given}
 use Rattle.outcomes.proofs.Writing.{wrote_as, wrote-length, wrote-front}
 use Rattle.card.specs.Written.{fields_with, fields_of, written}
-use Rattle.writer.specs.Outcome.{answer_of, write_under, write_of}
+use Rattle.writer.specs.Outcome.{write_under, write_of}
 use Rattle.writer.specs.Claims.{ReadsAs}
-use Rattle.writer.specs.declared.CardWritten.TheVariants.{Refused}
 
 -- ---- with the card's bytes
 module _ (card output : List ℕ) where
@@ -50,7 +50,7 @@ module _ (c : Card) (output : List ℕ) where
   write-given = fitted-given (written c) output
 
   -- no call with room enough is refused
-  pub never-refused : (refusal : Refusal) {after : List ℕ} → length (written c) ≤ length output → outcome (answer_of (Refused refusal)) after ≡ write_under c output
+  pub never-refused : (refusal : Refusal) {after : List ℕ} → length (written c) ≤ length output → outcome (answer_of (Err refusal)) after ≡ write_under c output
       → ⊥
   unfolding given_of
   never-refused refusal l e =

@@ -6,16 +6,17 @@ use native.Mathlib.Omega.{arith}
 use lib.ListN.{length, take}
 use lib.IntN.{ℤ, pos, pos-ne-negsuc}
 use lib.Signed.{mag}
+use Rattle.std.specs.Prelude.{Result}
 use Rattle.code.specs.Bench.{P}
 use Rattle.code.specs.declared.Card.{Card}
 use Rattle.card.specs.Bench.{card_p}
 use Rattle.card.specs.Fields.{Fields, card_of}
 use Rattle.card.specs.Layout.{longest_card, Acceptable}
-use Rattle.card.specs.Outcome.{Outcome, CardOutcome, outcome_of}
+use Rattle.card.specs.Outcome.{Outcome, CardOutcome, outcome_of, card_in}
 use Rattle.card.specs.Outcome.Outcome.{accepted, refused}
 use Rattle.card.specs.Promise.{CardPromise}
 use Rattle.card.specs.Reading.{read_card}
-use Rattle.card.specs.declared.CardRead.{CardRead}
+use Rattle.card.specs.declared.Fault.{Fault}
 use Rattle.card.specs.declared.CardRule.{CardRule}
 use Rattle.card.specs.declared.CardRule.TheVariants.{Present}
 use Rattle.card.proofs.Acceptance as acceptance
@@ -45,13 +46,13 @@ module _ (output : List ℕ) {after : List ℕ} (n : ℕ) (positive : 0 < n) whe
   read_back card (refused m at) c e q = absurd (not-refused m (q ∙ write-refused card output (ap (λ (r : CardOutcome). r.outcome) e)))
 
 -- ---- the card that is read
-module _ {rule : CardRule} {card : List ℕ} {read : CardRead} (promise : CardPromise rule card read) (e : outcome_of read.verdict ≡ accepted) where
-  pub read_as : ReadsUnder rule card read.card
-  read_as = sym promise.is_read ∙ ap (λ (o : Outcome). record { outcome = o; card = read.card }) e
+module _ {rule : CardRule} {card : List ℕ} {read : Result Card Fault} (promise : CardPromise rule card read) (e : outcome_of read ≡ accepted) where
+  pub read_as : ReadsUnder rule card (card_in read)
+  read_as = sym promise.is_read ∙ ap (λ (o : Outcome). record { outcome = o; card = card_in read }) e
 
   -- a card that is accepted has a written form that is no longer than any card
-  pub accepted-length : length (written read.card) ≤ longest_card
-  accepted-length = (written-form read.card).length_most rule card read_as
+  pub accepted-length : length (written (card_in read)) ≤ longest_card
+  accepted-length = (written-form (card_in read)).length_most rule card read_as
 
 -- ---- the claims of a call
 module _ (card output : List ℕ) where

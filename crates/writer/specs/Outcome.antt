@@ -1,19 +1,11 @@
 -- What writing a card comes to, for every card and output: document 02, R-1 ("The answer is the count of bytes, only that many are written, and
 -- output too short is 13, as in a burst").
 -- Assumes nothing.
-use Rattle.std.specs.Prelude.{ℕ, List, ℤ, pos, neg_ℤ}
+use Rattle.std.specs.Prelude.{ℕ, List}
 use Rattle.code.specs.declared.Card.{Card}
-use Rattle.card.specs.Refusals.{number_of}
 use Rattle.card.specs.Reading.{read_card}
 use Rattle.outcomes.specs.Outcome.{BurstOutcome, fitted, under_card}
 use Rattle.card.specs.Written.{written}
-use Rattle.writer.specs.declared.CardWritten.{CardWritten}
-use Rattle.writer.specs.declared.CardWritten.TheVariants.{Count, Refused}
-
--- the count, or minus the refusal
-abbrev pub answer_of : CardWritten → ℤ
-answer_of (Count n) = pos n
-answer_of (Refused refusal) = neg_ℤ (pos (number_of refusal))
 
 -- the card c
 unfoldable pub write_under : Card → List ℕ → BurstOutcome

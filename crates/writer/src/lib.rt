@@ -6,21 +6,14 @@ mod parts;
 
 ghost use Rattle.std.specs.Prelude.{◌≡◌, ◌+◌, ◌≤◌};
 ghost use Rattle.card.specs.Layout.{layout};
-ghost use Rattle.outcomes.specs.Outcome.{outcome};
+ghost use Rattle.outcomes.specs.Outcome.{outcome, answer_of};
 ghost use Rattle.outcomes.specs.Wrote.{Wrote};
 ghost use Rattle.card.specs.Written.{fields_with};
-ghost use Rattle.writer.specs.Outcome.{answer_of, write_under};
+ghost use Rattle.writer.specs.Outcome.{write_under};
 ghost use Rattle.writer.specs.Claims.{WrittenForm};
 
 use card::Refusal;
 use code::{CHECK_WORDS, Card};
-
-// What writing a card comes to: the count of bytes, or the refusal.
-#[derive(Clone, Copy)]
-pub enum CardWritten {
-    Count(usize),
-    Refused(Refusal),
-}
 
 // The bytes of a card with these tables, as many as the output has room for: the count of them all.
 fn lay_out<'a>(
@@ -42,7 +35,7 @@ fn lay_out<'a>(
 }
 
 // Writes a card: the count of bytes, or 13 where the output is too short. Only that many bytes are written, and a refused call writes none.
-pub fn write_card(card: Card, output: &mut [u8]) -> CardWritten
+pub fn write_card(card: Card, output: &mut [u8]) -> Result<usize, Refusal>
     ensures output_after { outcome (answer_of result) output.new ≡ write_under card output.old }
     ensures written_form { WrittenForm card }
 {
@@ -61,7 +54,7 @@ pub fn write_card(card: Card, output: &mut [u8]) -> CardWritten
         &card.checks,
     );
     if output.len() < count {
-        return CardWritten::Refused(Refusal::OutputTooShort);
+        return Err(Refusal::OutputTooShort);
     }
     lay_out(
         output,
@@ -73,5 +66,5 @@ pub fn write_card(card: Card, output: &mut [u8]) -> CardWritten
         &card.counts,
         &card.checks,
     );
-    CardWritten::Count(count)
+    Ok(count)
 }
