@@ -4,13 +4,12 @@ use Prim.Native.Nat.{ℕ, zero, suc, ◌+◌, ◌-◌, ◌*◌, ◌/◌, ◌%◌
 use mathlib.Core.Path.{◌≡◌, refl, sym, ap, ◌∙◌}
 use mathlib.Core.Bool.{Bool, true, false, ◌||◌, or-false, or_assoc}
 use mathlib.Core.Logic.{⊎_elim}
-use mathlib.Core.List.{List}
+use mathlib.Core.List.{List, [], ◌∷◌}
+use Rattle.std.specs.List.{fold}
 use native.Mathlib.Nat.{eq-or-lt_of_le, le-div_iff_mul-le, div-eq_of_lt, lt_of_lt_of_le, mul_assoc, mul-le-mul_left, mul-mod_left, mul-div_cancel, sub-add_cancel}
 use native.Mathlib.Numerals.{add-one}
 use native.Mathlib.Omega.{arith}
 use lib.Dec.{leb, ltb}
-use lib.ListN.{length, get_or, drop, drop_of_length-le}
-use lib.Seq.{drop-cons}
 use lib.Pow.{pow_pos, pow-add, pow_mono, shl_exact}
 use borrow.Author.Tests.{lt-ltb, le-leb, lt-leb, leb-true, leb-false}
 use lib.Bits.{bit_and, bit_or, bit_xor, and_le_l, and_le_r, and_lt, or_lt, or_add_and, xor_lt, xor_zero_r}
@@ -144,24 +143,14 @@ or-beyond n x y = go (leb (2 ^ n) x) (leb (2 ^ n) y) refl refl
     go false true e q = le-leb (2 ^ n) (bit_or x y) (omega (arith, or_add_and x y, and_le_l x y, leb-true (2 ^ n) y q))
     go false false e q = lt-leb (2 ^ n) (bit_or x y) (or_lt n x y (leb-false (2 ^ n) x e) (leb-false (2 ^ n) y q))
 
--- a loop that takes the or of all frames: whether it has a digit beyond so far, or one of the frames from i on
-abbrev pub BeyondFrom : ℕ → List ℕ → ℕ → ℕ → Type 0
-BeyondFrom n frames all i = any_beyond n frames ≡ (leb (2 ^ n) all || any_beyond n (drop i frames))
-
-pub beyond-start : (n : ℕ) (frames : List ℕ) → BeyondFrom n frames 0 0
-beyond-start n frames = sym (ap (λ b. b || any_beyond n frames) (lt-leb (2 ^ n) 0 (pow_pos n)))
-
-pub beyond-more : (n : ℕ) (frames : List ℕ) (all i : ℕ) → i < length frames → BeyondFrom n frames all i → BeyondFrom n frames (bit_or all (get_or frames i 0)) (i + 1)
+-- so has the or of all frames
+pub all-beyond : (n all : ℕ) (frames : List ℕ) → leb (2 ^ n) (fold bit_or all frames) ≡ (leb (2 ^ n) all || any_beyond n frames)
 unfolding any_beyond
-beyond-more n frames all i l e =
-    let f = get_or frames i 0 in
-    let rest = any_beyond n (drop (i + 1) frames) in
-    e
-    ∙ ap (λ xs. leb (2 ^ n) all || any_beyond n xs) (drop-cons frames i 0 l)
-    ∙ ap (λ j. leb (2 ^ n) all || (leb (2 ^ n) f || any_beyond n (drop j frames))) (sym (add-one i))
-    ∙ sym (or_assoc (leb (2 ^ n) all) (leb (2 ^ n) f) rest)
-    ∙ ap (λ b. b || rest) (sym (or-beyond n all f))
+all-beyond n all [] = sym (or-false (leb (2 ^ n) all))
+all-beyond n all (f ∷ frames) =
+    all-beyond n (bit_or all f) frames
+    ∙ ap (λ b. b || any_beyond n frames) (or-beyond n all f)
+    ∙ or_assoc (leb (2 ^ n) all) (leb (2 ^ n) f) (any_beyond n frames)
 
-pub beyond-end : (n : ℕ) (frames : List ℕ) (all i : ℕ) → length frames ≤ i → BeyondFrom n frames all i → leb (2 ^ n) all ≡ any_beyond n frames
-unfolding any_beyond
-beyond-end n frames all i l e = sym (e ∙ ap (λ xs. leb (2 ^ n) all || any_beyond n xs) (drop_of_length-le frames l) ∙ or-false (leb (2 ^ n) all))
+pub any-beyond : (n : ℕ) (frames : List ℕ) → leb (2 ^ n) (fold bit_or 0 frames) ≡ any_beyond n frames
+any-beyond n frames = all-beyond n 0 frames ∙ ap (λ b. b || any_beyond n frames) (lt-leb (2 ^ n) 0 (pow_pos n))

@@ -8,7 +8,7 @@ ghost use Rattle.bits.specs.Digits.{bit, shift_up, any_beyond};
 pub fn digit(x: u32, a: usize) -> u32
     ensures { result ≡ bit x a }
 {
-    if a < 32 { (x >> a) % 2 } else { 0 }
+    shift_down(x, a) % 2
 }
 
 // x moved up by a places, what leaves the word lost.
@@ -29,14 +29,14 @@ pub fn shift_down(x: u32, a: usize) -> u32
 pub fn word(table: &[u32], i: usize) -> u32
     ensures { result ≡ get_or table.now i 0 }
 {
-    if i < table.len() { table[i] } else { 0 }
+    table.get(i).copied().unwrap_or(0)
 }
 
 // Whether a frame has a digit at stream n or beyond.
 pub fn beyond(frame: u8, n: usize) -> bool
     ensures { result ≡ leb (2 ^ n) frame }
 {
-    if n < 8 { 0 < frame >> n } else { false }
+    n < 8 && 0 < frame >> n
 }
 
 // Whether some frame has a digit at stream n or beyond.
@@ -44,20 +44,14 @@ pub fn any_beyond(frames: &[u8], n: usize) -> bool
     ensures { result ≡ any_beyond n frames.now }
 {
     // An or over all frames, and no branch in the loop: in a burst that is taken every frame has to be looked at anyway.
-    let mut all: u8 = 0;
-    let mut i = 0;
-    while i < frames.len() {
-        all = all | frames[i];
-        i += 1;
-    }
-    beyond(all, n)
+    beyond(frames.iter().fold(0, |all, frame| all | frame), n)
 }
 
 // x, held to a largest value.
 pub fn at_most(x: usize, most: usize) -> usize
     ensures { result ≡ min x most }
 {
-    if x < most { x } else { most }
+    x.min(most)
 }
 
 // A byte as a word.
