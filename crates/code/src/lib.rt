@@ -60,23 +60,20 @@ impl Card {
 pub fn generator(generators: &[u32], i: usize, j: usize) -> u32
     ensures { result ≡ generator_mask generators.now i j }
 {
-    if i < 4 {
-        if j < 8 {
-            return bits::word(generators, i * 8 + j);
-        }
+    if i < 4 && j < 8 {
+        bits::word(generators, i * 8 + j)
+    } else {
+        0
     }
-    0
 }
 
 // The generators, on parity stream j, of those of the k information streams that are in x, added up. Beyond the table there is nothing to add.
 pub fn generator_sum(generators: &[u32], k: usize, x: u32, j: usize) -> u32
     ensures { result ≡ generator_sum generators.now k x j }
 {
-    let mut sum: u32 = 0;
-    let mut i = 0;
-    while i < k {
-        sum = sum ^ generator(generators, i, j) * bits::digit(x, i);
-        i += 1;
+    let mut sum = 0;
+    for i in 0..k {
+        sum ^= generator(generators, i, j) * bits::digit(x, i);
     }
     sum
 }
@@ -93,27 +90,21 @@ fn shifted_in(x: u32, digit: u32) -> u32
 pub fn parity(generators: &[u32], registers: &[u32], k: usize, j: usize) -> u32
     ensures { result ≡ parity_by generators.now registers.now k j }
 {
-    let streams = bits::at_most(k, 4);
-    let mut sum: u32 = 0;
-    let mut i = 0;
-    while i < streams {
-        sum = sum ^ (generator(generators, i, j) & bits::word(registers, i));
-        i += 1;
+    let mut sum = 0u32;
+    for i in 0..k.min(4) {
+        sum ^= generator(generators, i, j) & bits::word(registers, i);
     }
-    u32::count_ones(sum) % 2
+    sum.count_ones() % 2
 }
 
 // The frame that is sent: the information digits of `info`, and after them the parity digits that the registers give, eight digits at most.
 pub fn frame(generators: &[u32], registers: &[u32], k: usize, p: usize, info: u32) -> u32
     ensures { result ≡ frame_by generators.now registers.now k p info }
 {
-    let streams = bits::at_most(k, 4);
-    let parities = bits::at_most(p, 8 - streams);
-    let mut digits = info % bits::shift_up(1, streams);
-    let mut j = 0;
-    while j < parities {
-        digits = digits + bits::shift_up(parity(generators, registers, k, j), streams + j);
-        j += 1;
+    let streams = k.min(4);
+    let mut digits = info % (1 << streams);
+    for j in 0..p.min(8 - streams) {
+        digits += parity(generators, registers, k, j) << (streams + j);
     }
     digits
 }
@@ -123,23 +114,19 @@ pub fn frame(generators: &[u32], registers: &[u32], k: usize, p: usize, info: u3
 pub fn syndromes(generators: &[u32], registers: &[u32], k: usize, p: usize, received: u32) -> u32
     ensures { result ≡ syndromes_by generators.now registers.now k p received }
 {
-    let sent = frame(generators, registers, k, p, received);
-    bits::shift_down(received ^ sent, bits::at_most(k, 4))
+    (received ^ frame(generators, registers, k, p, received)) >> k.min(4)
 }
 
 // What the errors of a frame changed in the syndromes of each parity stream, from its time on.
 pub fn feedback(generators: &[u32], k: usize, p: usize, errors: u32) -> [u32; 8]
     ensures { result ≡ feedback_by generators.now k p errors }
 {
+    let mut changes = [0; 8];
     if errors == 0 {
-        return [0u32; 8];
+        return changes;
     }
-    let parities = bits::at_most(p, 8);
-    let mut changes = [0u32; 8];
-    let mut j = 0;
-    while j < parities {
+    for j in 0..p.min(8) {
         changes[j] = generator_sum(generators, k, errors, j);
-        j += 1;
     }
     changes
 }
@@ -151,11 +138,8 @@ pub fn feedback(generators: &[u32], k: usize, p: usize, errors: u32) -> [u32; 8]
 pub fn put_history(registers: &mut [u32], k: usize, frame: u32)
     ensures { registers.new ≡ history_by registers.old k frame }
 {
-    let streams = bits::at_most(k, registers.len());
-    let mut i = 0;
-    while i < streams {
+    for i in 0..k.min(registers.len()) {
         registers[i] = shifted_in(registers[i], bits::digit(frame, i));
-        i += 1;
     }
 }
 
@@ -163,10 +147,8 @@ pub fn put_history(registers: &mut [u32], k: usize, frame: u32)
 pub fn put_digits(registers: &mut [u32], frame: u32, place: usize)
     ensures { registers.new ≡ with_digits registers.old frame place }
 {
-    let mut s = 0;
-    while s < registers.len() {
-        registers[s] = registers[s] ^ bits::shift_up(bits::digit(frame, s), place);
-        s += 1;
+    for (s, register) in registers.iter_mut().enumerate() {
+        *register ^= bits::shift_up(bits::digit(frame, s), place);
     }
 }
 
@@ -174,10 +156,8 @@ pub fn put_digits(registers: &mut [u32], frame: u32, place: usize)
 pub fn add_words(registers: &mut [u32], words: &[u32; 8])
     ensures { registers.new ≡ with_words registers.old words.now }
 {
-    let mut s = 0;
-    while s < registers.len() {
-        registers[s] = registers[s] ^ bits::word(words, s);
-        s += 1;
+    for (s, register) in registers.iter_mut().enumerate() {
+        *register ^= bits::word(words, s);
     }
 }
 
@@ -185,9 +165,7 @@ pub fn add_words(registers: &mut [u32], words: &[u32; 8])
 pub fn move_on(registers: &mut [u32])
     ensures { registers.new ≡ moved_on registers.old }
 {
-    let mut s = 0;
-    while s < registers.len() {
-        registers[s] = registers[s] >> 1;
-        s += 1;
+    for register in registers.iter_mut() {
+        *register >>= 1;
     }
 }

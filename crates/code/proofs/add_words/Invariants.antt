@@ -1,15 +1,10 @@
--- The loop has added the words of the streams that it passed.
-use Prim.Native.Nat.{◌-◌, ◌≤◌}
+-- The loop has added the words to the registers that it passed.
 use mathlib.Core.Path.{◌≡◌}
 use mathlib.Core.List.{◌++◌}
-use lib.ListN.{length, get_or, drop}
+use lib.ListN.{get_or, drop}
 use lib.Bits.{bit_xor}
 use Rattle.bits.specs.Sums.{up_to}
 use Rattle.code.proofs.add_words.Given as goal
 
 abbrev pub invariant-loop-s : goal.invariant-loop-s
-invariant-loop-s l =
-    (l.s ≤ length l.initial.registers) × (length l.registers ≡ length l.initial.registers) × (l.registers ≡ up_to l.s (λ b. bit_xor (get_or l.initial.registers b 0) (get_or l.words b 0)) ++ drop l.s l.initial.registers)
-
-abbrev pub decreases-loop-s : goal.decreases-loop-s
-decreases-loop-s l = length l.initial.registers - l.s
+invariant-loop-s l = l.registers ≡ up_to l.s (λ b. bit_xor (get_or l.initial.registers b 0) (get_or l.words b 0)) ++ drop l.s l.initial.registers

@@ -13,26 +13,18 @@ returns-then-errors-eq0 c =
     let a = c.args in
     feedback-none a.generators.now a.k a.p ∙ ap (feedback_by a.generators.now a.k a.p) (sym c.if-errors-eq0.true)
 
-pub at_most-parities-requires : goal.at_most-parities-requires
-at_most-parities-requires c = tt
-
 pub loop-j-init : goal.loop-j-init
 unfolding up_to
-loop-j-init c = (omega arith, refl)
-
-pub generator_sum-requires : goal.generator_sum-requires
-generator_sum-requires c = tt
+loop-j-init c = refl
 
 pub loop-j-preserved : goal.loop-j-preserved
-loop-j-preserved c =
-    let l = c.loop-j in
-    (omega arith, part_step _ (replicate 8 0) l.j l.changes _ (omega arith) l.invariant.1 c.generator_sum.ensures)
+loop-j-preserved c = part_step _ (replicate 8 0) _ _ _ (omega arith) c.loop-j.invariant c.generator_sum.ensures
 
 pub returns : goal.returns
 unfolding feedback_by
 returns c =
     let a = c.args in
     let f = generator_sum a.generators.now a.k a.errors in
-    c.loop-j.invariant.1
-    ∙ part_end f (replicate 8 0) c.loop-j.invariant.0 c.loop-j-test.false
-    ∙ ap (λ n. up_to n f ++ drop n (replicate 8 0)) c.at_most-parities.ensures
+    c.loop-j.invariant
+    ∙ part_end f (replicate 8 0) c.loop-j.auto.j-end c.loop-j-test.false
+    ∙ ap (λ n. up_to n f ++ drop n (replicate 8 0)) c.min-j-end.ensures

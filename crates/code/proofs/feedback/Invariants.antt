@@ -1,5 +1,4 @@
 -- The loop has worked out the changes of the parity streams that it passed.
-use Prim.Native.Nat.{◌-◌, ◌≤◌}
 use mathlib.Core.Path.{◌≡◌}
 use mathlib.Core.List.{◌++◌}
 use lib.ListN.{drop, replicate}
@@ -8,8 +7,4 @@ use Rattle.code.specs.Registers.{generator_sum}
 use Rattle.code.proofs.feedback.Given as goal
 
 abbrev pub invariant-loop-j : goal.invariant-loop-j
-invariant-loop-j l =
-    (l.j ≤ l.parities) × (l.changes ≡ up_to l.j (generator_sum l.generators l.k l.errors) ++ drop l.j (replicate 8 0))
-
-abbrev pub decreases-loop-j : goal.decreases-loop-j
-decreases-loop-j l = l.parities - l.j
+invariant-loop-j l = l.changes ≡ up_to l.j (generator_sum l.generators l.k l.errors) ++ drop l.j (replicate 8 0)

@@ -11,31 +11,19 @@ use Rattle.code.proofs.generator_sum.Goals as goal
 
 pub loop-i-init : goal.loop-i-init
 unfolding xor_below
-loop-i-init c = (omega arith, refl)
-
-pub generator-requires : goal.generator-requires
-generator-requires c = tt
-
-pub digit-requires : goal.digit-requires
-digit-requires c = tt
+loop-i-init c = refl
 
 pub overflow_mul-sum : goal.overflow_mul-sum
 unfolding bit
 overflow_mul-sum c = record { fits = mask-times-lt 32 c.generator.result c.digit.result (omega arith) (omega arith) }
 
 pub loop-i-preserved : goal.loop-i-preserved
-loop-i-preserved c =
-    let l = c.loop-i in
-    let a = c.args in (
-      omega arith,
-      ap₂ bit_xor l.invariant.1 (ap₂ ◌*◌ c.generator.ensures c.digit.ensures)
-          ∙ sym (xor-more l.i (λ b. generator_mask a.generators.now b a.j * bit a.x b)),
-    )
+loop-i-preserved c = ap₂ bit_xor c.loop-i.invariant (ap₂ ◌*◌ c.generator.ensures c.digit.ensures) ∙ sym (xor-more c.loop-i.i _)
 
 pub returns : goal.returns
 unfolding generator_sum
 returns c =
     let a = c.args in
-    c.loop-i.invariant.1
+    c.loop-i.invariant
     ∙ ap (λ (n : ℕ). xor_below n (λ b. generator_mask a.generators.now b a.j * bit a.x b))
-    (le_antisymm c.loop-i.invariant.0 c.loop-i-test.false)
+    (le_antisymm c.loop-i.auto.i-end c.loop-i-test.false)

@@ -3,4 +3,4 @@ use Rattle.code.proofs.syndromes.Goals as goal
 
 pub returns : goal.returns
 unfolding syndromes_by
-returns c = rw (c.frame-sent.ensures, c.at_most.ensures) at c.shift_down.ensures
+returns c = rw (c.frame.ensures, c.min.ensures)
