@@ -45,22 +45,19 @@ wrote-front {output} {s = s} w h =
     w.after_is ∙ sets-eq s output 0 (omega arith) ∙ ap (λ (n : ℕ). s ++ drop n output) (zero-add (length s))
 
 -- ---- by a cursor
-pub stored-nothing : (c : Cursor) → length c.output.now < 2 ^ 64 → c.at < 2 ^ 64 → Stored c c []
-stored-nothing c most place = record { same_output = refl; length_most = most; output_is = refl; at_is = omega arith }
+pub stored-nothing : (c : Cursor) → length c.output.now < 2 ^ 64 → Stored c c []
+stored-nothing c most = record { same_output = refl; length_most = most; output_is = refl; at_is = omega arith }
 
 sets-beyond : (l : List ℕ) (i : ℕ) (s : List ℕ) → length l ≤ i → sets l i s ≡ l
 sets-beyond l i [] h = refl
 sets-beyond l i (x ∷ s) h = ap (λ (m : List ℕ). sets m (suc i) s) (set_out l i x h) ∙ sets-beyond l (suc i) s (omega arith)
 
--- beyond the end one place is as good as another
-sets-place : (l : List ℕ) (i j : ℕ) (s : List ℕ) → length l ≤ i → i ≤ j → sets l i s ≡ sets l j s
-sets-place l i j s h o = sets-beyond l i s h ∙ sym (sets-beyond l j s (omega arith))
-
-sets-held : (l : List ℕ) (i most : ℕ) (s : List ℕ) → length l ≤ most → sets l (min i most) s ≡ sets l i s
-sets-held l i most s h =
-    ⊎_elim (λ (o : i ≤ most). let e : min i most ≡ i = omega arith in ap (λ (n : ℕ). sets l n s) e)
-    (λ (o : most < i). let e : min i most ≡ most = omega arith in ap (λ (n : ℕ). sets l n s) e ∙ sets-place l most i s h (omega arith))
-    (le-or-lt i most)
+-- a place that is held to the largest number is beyond the end too
+sets-held : (l : List ℕ) (at n most : ℕ) (s : List ℕ) → length l ≤ most → sets l (at + min n (most - at)) s ≡ sets l (at + n) s
+sets-held l at n most s h =
+    ⊎_elim (λ (below : at + n ≤ most). let e : at + min n (most - at) ≡ at + n = omega arith in ap (λ (i : ℕ). sets l i s) e)
+    (λ (above : most < at + n). sets-beyond l (at + min n (most - at)) s (omega arith) ∙ sym (sets-beyond l (at + n) s (omega arith)))
+    (le-or-lt (at + n) most)
 
 pub stored-both : {before between after : Cursor} {s t : List ℕ} → Stored before between s → Stored between after t → Stored before after (s ++ t)
 stored-both {before} {between} {s = s} {t} v w =
@@ -68,7 +65,7 @@ stored-both {before} {between} {s = s} {t} v w =
       same_output = w.same_output ∙ v.same_output;
       length_most = v.length_most;
       output_is = w.output_is ∙ ap₂ (λ (l : List ℕ) (n : ℕ). sets l n t) v.output_is v.at_is
-          ∙ sets-held (sets before.output.now before.at s) (before.at + length s) (2 ^ 64 - 1) t (omega (arith, v.length_most, length-sets before.output.now before.at s))
+          ∙ sets-held (sets before.output.now before.at s) before.at (length s) (2 ^ 64 - 1) t (omega (arith, v.length_most, length-sets before.output.now before.at s))
           ∙ sets-append before.output.now before.at s t;
       at_is = omega (arith, v.at_is, w.at_is, length-append s t);
     }

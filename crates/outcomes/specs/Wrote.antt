@@ -10,9 +10,9 @@ pub record Wrote (output : List ℕ) (at : ℕ) (written after : List ℕ) (end 
   pub after_is : after ≡ sets output at written
   pub end_is : end ≡ at + length written
 
--- by a cursor, from its place on, which moves behind them: the output is the same one, and no place is above the last that a number names
+-- by a cursor, from its place on, which moves behind them, as far as a number names places; the output is the same one
 pub record Stored (before after : Cursor) (written : List ℕ) : Type 0 where
   pub same_output : after.output.ghost_name ≡ before.output.ghost_name
   pub length_most : length before.output.now < 2 ^ 64
   pub output_is : after.output.now ≡ sets before.output.now before.at written
-  pub at_is : after.at ≡ min (before.at + length written) (2 ^ 64 - 1)
+  pub at_is : after.at ≡ before.at + min (length written) (2 ^ 64 - 1 - before.at)
