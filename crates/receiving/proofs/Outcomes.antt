@@ -1,20 +1,24 @@
 -- The ways out of a receiving call, and that a call is taken by its conditions exactly if it is not refused. The session is of any kind.
 use Prim.Native.Nat.{ℕ, ◌+◌, ◌^◌, ◌≤◌, ◌<◌, min}
-use mathlib.Core.Path.{◌≡◌, refl, ap, ◌∙◌}
+use mathlib.Core.Path.{◌≡◌, refl, sym, ap, ◌∙◌}
 use mathlib.Core.Bool.{Bool, true, false, cond, ◌&&◌}
 use mathlib.Core.Logic.{◌⊎◌, inl, inr}
 use mathlib.Core.List.{List}
 use native.Mathlib.Omega.{arith}
 use lib.Dec.{ltb, eqb}
+use Rattle.std.specs.Prelude.{Ok, Err, None}
 use borrow.Author.Tests.{eq-eqb, ne_eqb, lt-ltb, le-ltb, eqb-true, eqb-false, ltb-true, ltb-false}
 use Rattle.code.specs.Code.{most_frames}
 use Rattle.code.specs.Guarantees.{Guarantees}
 use Rattle.code.specs.declared.Card.{Card}
-use Rattle.receiving.specs.Answers.{Reply, waiting}
+use Rattle.card.specs.Refusals.{number_of}
+use Rattle.card.specs.declared.Refusal.{Refusal}
+use Rattle.receiving.specs.Answers.{Reply, waiting, published}
 use Rattle.receiving.specs.Readings.{Yield, yields, refuses, faults, frame_read, erased_read, read_byte_of, read_frame_of}
-use Rattle.receiving.specs.Receive.{sizes_in, Circuit, in_turn, admit_of, refused_of, settled_of, receive_of, receive_byte_of, receive_readings_of}
+use Rattle.receiving.specs.Receive.{sizes_in, Circuit, in_turn, admit_of, refused_of, settled_of, receive_of, receive_byte_of, receive_readings_of, Holding, with_frame, handing_of, taken_of, circuit_of}
 use Rattle.receiving.specs.Calls.{Call, byte, readings, reply_of, number_in, frame_in, erased_in, readable, taken}
 use Rattle.receiving.specs.declared.Reading.{Reading}
+use Rattle.receiving.specs.declared.Session.{Session}
 use Rattle.receiving.proofs.Yields.{byte-within, byte-beyond, read_whole, read-faulty}
 
 -- ---- each way out
@@ -140,3 +144,23 @@ module _ {S : Type 0} (x : Circuit S) (s : S) (number : ℕ) (y : Yield) where
     readings-are levels q =
         let most : min (sizes_in (x.card s)).n 8 ≡ (sizes_in (x.card s)).n = omega arith in
         e ∙ ap (receive_of x s number) (q ∙ ap (read_frame_of levels) most)
+
+-- ---- the parts of a call on the program's sessions
+
+module _ {H : Type 0} (k : Holding H) (s : Session H) (number : ℕ) (y : Yield) where
+  pub call-refused : (r : Refusal) → refuses (number_of r) ≡ admit_of s.card.number s.received number y → published (Err r) s ≡ receive_of (circuit_of k) s number y
+  unfolding receive_of settled_of refused_of
+  call-refused r e = ap (settled_of (circuit_of k) s) e
+
+  module _ (f e : ℕ) (admitted : yields f e ≡ admit_of s.card.number s.received number y) where
+    pub call-taken : taken_of k s f e ≡ receive_of (circuit_of k) s number y
+    unfolding receive_of settled_of
+    call-taken = ap (settled_of (circuit_of k) s) admitted
+
+    pub call-waits : s.received < s.card.m → published (Ok None) (with_frame k s f e) ≡ receive_of (circuit_of k) s number y
+    unfolding taken_of
+    call-waits l = sym (first-wait s.received s.card.m (with_frame k s f e) (handing_of k) l) ∙ call-taken
+
+    pub call-hands : s.card.m ≤ s.received → handing_of k (with_frame k s f e) ≡ receive_of (circuit_of k) s number y
+    unfolding taken_of
+    call-hands l = sym (later-hand s.received s.card.m (with_frame k s f e) (handing_of k) l) ∙ call-taken

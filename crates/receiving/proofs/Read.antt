@@ -3,6 +3,8 @@ use Prim.Native.Nat.{ℕ, ◌+◌, ◌^◌, ◌≤◌, ◌<◌}
 use mathlib.Core.Path.{◌≡◌, refl, sym, ap, ap₂, ◌∙◌}
 use mathlib.Core.List.{List}
 use native.Mathlib.Omega.{arith}
+use lib.ListN.{length, get_or, take, length-take}
+use Rattle.std.proofs.lemmas.List.{get_or-take, get_or_default}
 use Rattle.bits.specs.Sums.{sum_below}
 use Rattle.bits.specs.Digits.{from_digits, shift_up}
 use Rattle.bits.proofs.Sums.{sum_more}
@@ -52,6 +54,12 @@ module _ (readings : List Reading) (s frame marks : ℕ) (R : Read readings s fr
   pub read-erased : digit_of (reading_at readings s) ≡ erased → Read readings (s + 1) frame (marks + shift_up 1 s)
   unfolding digit_in mark_in fault_in
   read-erased y = rw nothing at (more 0 1 (sym (ap digit_in y)) (sym (ap mark_in y)) (omega arith) (omega arith) (ap fault_in y))
+
+-- reading s of those that are looked at, whatever stands for one beyond them
+pub looked-at : (readings : List Reading) (n s : ℕ) (beyond : Reading) → s < length (take n readings) → get_or (take n readings) s beyond ≡ reading_at readings s
+looked-at readings n s beyond l =
+    let m = length-take n readings in
+    get_or-take n readings s beyond (omega arith) ∙ get_or_default readings s beyond _ (omega arith)
 
 -- all n have been passed
 pub read_all : (readings : List Reading) (n s frame marks : ℕ) → s ≤ n → n ≤ s → Read readings s frame marks → yields frame marks ≡ read_frame_of readings n

@@ -5,8 +5,9 @@ use Rattle.std.specs.Prelude.{ℕ, ◌≡◌, List}
 use Rattle.card.specs.Outcome.{Outcome, accepted, refused, CardOutcome}
 use Rattle.card.specs.Reading.{read_card}
 use Rattle.code.specs.Code.{most_frames}
+use Rattle.code.specs.Guarantees.{Guarantees}
 use Rattle.code.specs.declared.Card.{Card}
-use Rattle.receiving.specs.Receive.{Circuit, refused_of}
+use Rattle.receiving.specs.Receive.{Circuit, open_of, refused_of}
 use Rattle.receiving.specs.Calls.{Call, number_in, reply_of}
 
 -- how many frames a session counts as received when it is opened: a refused card leaves no room for a frame
@@ -30,3 +31,11 @@ pub record Opens {S : Type 0} (x : Circuit S) (Claims : Card → S → Type 0) (
   pub session_is : s ≡ session_for x (read_card bytes)
   pub claims : outcome ≡ accepted → Claims (read_card bytes).card s
   pub shut : (n offset : ℕ) → outcome ≡ refused n offset → Closed x s
+
+-- what holds whatever the circuit does: the session is as before its first frame, and its card has what reading it guarantees
+pub record Fresh {S : Type 0} (x : Circuit S) (c : Card) (s : S) : Type 0 where
+  pub guaranteed : Guarantees c
+  pub is_fresh : s ≡ open_of x c
+
+abbrev pub OpensFresh : {S : Type 0} → Circuit S → List ℕ → Outcome → S → Type 0
+OpensFresh x bytes outcome s = Opens x (Fresh x) bytes outcome s

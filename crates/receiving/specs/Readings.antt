@@ -1,18 +1,16 @@
 -- What a frame yields that comes as a byte or as readings: document 01, "Readings and bursts", amended for 'erased' by document 02, R-6, and for levels
 -- close to zero by R-7.
 -- Assumes nothing.
-use Rattle.std.specs.Prelude.{ℕ, ◌*◌, ◌^◌, Bool, cond, List, get_or, leb, ltb, ℤ, Float}
+use Rattle.std.specs.Prelude.{ℕ, ◌*◌, ◌^◌, Bool, cond, Option, Some, None, Result, Ok, Err, List, get_or, leb, ltb, ℤ, Float}
 use Rattle.std.specs.Float.{nan, inf, fin}
 use Rattle.std.specs.Float.Ieee.{up, down}
 use Rattle.bits.specs.Sums.{sum_below}
 use Rattle.bits.specs.Digits.{from_digits}
 use Rattle.card.specs.Refusals.{number_of}
+use Rattle.card.specs.declared.Refusal.{Refusal}
+use Rattle.receiving.specs.declared.Frame.{Frame}
 use Rattle.receiving.specs.declared.Reading.{Reading}
 use Rattle.receiving.specs.declared.Reading.TheVariants.{Level, Erased}
-use Rattle.receiving.specs.declared.ReadDigit.{ReadDigit}
-use Rattle.receiving.specs.declared.ReadDigit.TheVariants as read-digit
-use Rattle.receiving.specs.declared.ReadFrame.{ReadFrame}
-use Rattle.receiving.specs.declared.ReadFrame.TheVariants as read-frame
 
 -- ---- a reading
 
@@ -89,11 +87,11 @@ unfoldable pub read_byte_of : ℕ → ℕ → Yield
 read_byte_of f n = cond (leb (2 ^ n) f) (refuses 11) (yields f 0)
 
 -- what the program hands back, in the published numbers
-abbrev pub yield_of : ReadDigit → ReadingYield
-yield_of (read-digit.Digit d) = digit d
-yield_of read-digit.Erased = erased
-yield_of (read-digit.Refused r) = refusal (number_of r)
+abbrev pub yield_of : Result (Option ℕ) Refusal → ReadingYield
+yield_of (Ok (Some d)) = digit d
+yield_of (Ok None) = erased
+yield_of (Err r) = refusal (number_of r)
 
-abbrev pub frame_yield_of : ReadFrame → Yield
-frame_yield_of (read-frame.Frame digits marks) = yields digits marks
-frame_yield_of (read-frame.Refused r) = refuses (number_of r)
+abbrev pub frame_yield_of : Result Frame Refusal → Yield
+frame_yield_of (Ok frame) = yields frame.digits frame.erased
+frame_yield_of (Err r) = refuses (number_of r)

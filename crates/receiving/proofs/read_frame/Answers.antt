@@ -1,6 +1,53 @@
-use mathlib.Core.Path.{ap, ◌∙◌}
-use Rattle.receiving.specs.Readings.{read_frame_of}
+use Prim.Native.Nat.{min}
+use mathlib.Core.Path.{sym, ap, ◌∙◌}
+use Rattle.std.specs.Prelude.{Ok}
+use native.Mathlib.Omega.{arith}
+use lib.ListN.{length-take}
+use Rattle.std.proofs.lemmas.Result.{err_from_is_err_and}
+use Rattle.bits.proofs.Words.{placed-fits}
+use Rattle.receiving.specs.Readings.{yield_of, digit_of}
+use Rattle.receiving.proofs.Yields.{read-refused}
+use Rattle.receiving.proofs.Read.{read_none, digit_lt, read-digit, read-erased, looked-at, read_all}
 use Rattle.receiving.proofs.read_frame.Goals as goal
+use Rattle.receiving.proofs.read_frame.Goals.{in-Some, in-None}
+
+pub loop-s-init : goal.loop-s-init
+loop-s-init c = read_none _
+
+pub returns-in_err-digit : goal.returns-in_err-digit
+returns-in_err-digit c =
+    let p = err_from_is_err_and c.from_residual.result c.from_residual.ensures.1 in
+    let e = sym (looked-at c.args.readings c.min.result c.loop-s.s _ (omega (arith, length-take c.min.result c.args.readings))) in
+    rw (p.1, p.2) (sym (read-refused c.args.readings (min c.args.n 8) c.loop-s.s _ (omega (arith, length-take c.min.result c.args.readings)) (ap digit_of e ∙ sym c.in_err-digit.ensures)))
+
+pub overflow_add-digits : goal.overflow_add-digits
+overflow_add-digits c =
+    let l = c.loop-s in
+    let e = sym (looked-at c.args.readings c.min.result l.s _ (omega (arith, length-take c.min.result c.args.readings))) in
+    let y = ap digit_of e ∙ sym c.in_ok-digit.ensures ∙ ap (λ o. yield_of (Ok o)) c.in-Some.is in
+    record { fits = omega (arith, c.shift_up-digits.ensures, placed-fits l.digits c.in-Some.digit l.s l.invariant.frame-lt (digit_lt c.args.readings l.s l.digits l.erased l.invariant (omega (arith, length-take c.min.result c.args.readings)) c.in-Some.digit y) (omega (arith, length-take c.min.result c.args.readings))) }
+
+pub overflow_add-erased : goal.overflow_add-erased
+overflow_add-erased c =
+    let l = c.loop-s in
+    record { fits = omega (arith, c.shift_up-erased.ensures, placed-fits l.erased 1 l.s l.invariant.marks-lt (omega (arith, length-take c.min.result c.args.readings)) (omega (arith, length-take c.min.result c.args.readings))) }
+
+pub loop-s-preserved : goal.loop-s-preserved
+loop-s-preserved c =
+    let l = c.loop-s in
+    let a = c.args in
+    let e = sym (looked-at c.args.readings c.min.result l.s _ (omega (arith, length-take c.min.result c.args.readings))) in
+    let y = ap digit_of e ∙ sym c.in_ok-digit.ensures in
+    elim c.match-branch-2.branch [
+      | in-Some w ↦
+          rw (w.digits-is, w.erased-is, w.shift_up-digits.ensures)
+          (read-digit a.readings l.s l.digits l.erased l.invariant (omega (arith, length-take c.min.result c.args.readings)) w.in-Some.digit (y ∙ ap (λ o. yield_of (Ok o)) w.in-Some.is))
+      | in-None w ↦
+          rw (w.digits-is, w.erased-is, w.shift_up-erased.ensures)
+          (read-erased a.readings l.s l.digits l.erased l.invariant (omega (arith, length-take c.min.result c.args.readings)) (y ∙ ap (λ o. yield_of (Ok o)) w.in-None.is))
+    ]
 
 pub returns : goal.returns
-returns c = c.frame_of.ensures ∙ ap (read_frame_of _) c.at_most.ensures
+returns c =
+    let l = c.loop-s in
+    read_all c.args.readings _ l.s l.digits l.erased (omega (arith, length-take c.min.result c.args.readings)) (omega (arith, length-take c.min.result c.args.readings)) l.invariant
