@@ -16,7 +16,8 @@ use Rattle.majority.specs.AsSent.{Correctable}
 use Rattle.majority.specs.Rule.{syndrome, cleared, check_at, voting, voters, votes, decide, decide_frame, decided, corrected, decoded, figure_by}
 use Rattle.receiving.specs.Answers.{waiting, frame, refused}
 use Rattle.receiving.specs.Readings.{in_band, digit_of_level, digit_of, digit_in, mark_in, fault_in, faults, frame_read, erased_read, read_byte_of, read_frame_of}
-use Rattle.receiving.specs.Receive.{open_of, in_turn, admit_of, refused_of, settled_of, receive_of, receive_byte_of, receive_readings_of}
+use Rattle.receiving.specs.Receive.{open_of, in_turn, admit_of, refused_of, settled_of, receive_of, receive_byte_of, receive_readings_of, with_frame, handing_of, taken_of}
+use Rattle.receiving.specs.declared.Session.{Session}
 use Rattle.receiving.specs.Calls.{Call, number_in, frame_in, erased_in, readable, taken, taken_parts, taken_frames, taken_erased, answers, reply_of, answers_by}
 use Rattle.receiving.specs.Claims.{ByRule}
 use Rattle.receiving.specs.Example.{calls_p_first, calls_p, calls_p_two_errors, calls_p_lost, ReceivesP, ReceivesFaintP, calls_t, calls_t_lost, ReceivesT}
@@ -24,12 +25,11 @@ use Rattle.receiving.proofs.Example as example
 use Rattle.receiving.proofs.Example.{Takes, TakesFaint}
 use Rattle.orthogonal.specs.Pass.{holds}
 use Rattle.vote.specs.Voters.{all_voting, voting_by, stream_voters_by, voters_by, decide_marked}
-use Rattle.code.specs.ErasedDigits.{any_with, erased_with, erased_moved}
 use Rattle.decoder.specs.Held.{with_syndromes, fed_back, held_with_frame, next_held, corrected_digit, corrected_by}
-use Rattle.decoder.specs.Receive.{errors_of, with_frame, handing_of, taken_of, first_circuit}
+use Rattle.decoder.specs.Receive.{errors_of, first_circuit}
 use Rattle.decoder.specs.Claims.{Claims}
 use Rattle.decoder.specs.Example.{FigureOfP}
-use Rattle.decoder.specs.declared.Session.{Session}
+use Rattle.decoder.specs.declared.Held.{Held}
 
 -- what the calls take: those that are refused take nothing
 taken-by : Takes first_circuit (open_of first_circuit P) calls_p (3 ∷ 3 ∷ 3 ∷ 2 ∷ []) (0 ∷ 0 ∷ 0 ∷ 1 ∷ [])
@@ -51,13 +51,13 @@ taken_at =
 
 -- the answers, call by call: the second circuit's session is to give the same
 pub answers-P : answers first_circuit (open_of first_circuit P) calls_p ≡ waiting ∷ frame 1 ∷ refused 14 ∷ refused 11 ∷ frame 0 ∷ refused 14 ∷ refused 12 ∷ frame 1 ∷ []
-unfolding sum_below xor_below up_to put_first back bit from_digits dot shift_up generator touches_info touches_by besides clashes generator_mask generator_sum shift_in history_by parity_by digit_by frame_by syndromes_by feedback_by with_digits with_words moved_on check_by ones_by if_whole majority_by decide_by holds all_voting voting_by stream_voters_by voters_by any_with erased_with erased_moved corrected_digit corrected_by with_syndromes decide_marked fed_back held_with_frame next_held errors_of in_band digit_of_level digit_of digit_in mark_in fault_in faults frame_read erased_read read_byte_of read_frame_of open_of with_frame handing_of taken_of in_turn admit_of refused_of settled_of receive_of receive_byte_of receive_readings_of reply_of answers ones
+unfolding sum_below xor_below up_to put_first back bit from_digits dot shift_up generator touches_info touches_by besides clashes generator_mask generator_sum shift_in history_by parity_by digit_by frame_by syndromes_by feedback_by with_digits with_words moved_on check_by ones_by if_whole majority_by decide_by holds all_voting voting_by stream_voters_by voters_by corrected_digit corrected_by with_syndromes decide_marked fed_back held_with_frame next_held errors_of in_band digit_of_level digit_of digit_in mark_in fault_in faults frame_read erased_read read_byte_of read_frame_of open_of with_frame handing_of taken_of in_turn admit_of refused_of settled_of receive_of receive_byte_of receive_readings_of reply_of answers ones
 answers-P = refl
 
-takes : {s t : Session} → s ≡ t → (calls : List Call) {frames erased : List ℕ} → Takes first_circuit t calls frames erased → Takes first_circuit s calls frames erased
-takes own calls e = (ap (λ (s : Session). taken_frames first_circuit s calls) own ∙ e.0, ap (λ (s : Session). taken_erased first_circuit s calls) own ∙ e.1)
+takes : {s t : Session Held} → s ≡ t → (calls : List Call) {frames erased : List ℕ} → Takes first_circuit t calls frames erased → Takes first_circuit s calls frames erased
+takes own calls e = (ap (λ (s : Session Held). taken_frames first_circuit s calls) own ∙ e.0, ap (λ (s : Session Held). taken_erased first_circuit s calls) own ∙ e.1)
 
-module _ (s : Session) (own : s ≡ open_of first_circuit P) (claims : Claims P s) where
+module _ (s : Session Held) (own : s ≡ open_of first_circuit P) (claims : Claims P s) where
   pub receives-P : ReceivesP first_circuit s
   unfolding sum_below up_to back grown bit from_digits generator digit parity_at count check_mask touches_info touches_by besides clashes syndrome cleared check_at voting voters votes decide decide_frame decided corrected decoded answers_by
   receives-P =
@@ -74,5 +74,5 @@ module _ (s : Session) (own : s ≡ open_of first_circuit P) (claims : Claims P 
   unfolding sum_below up_to back grown bit from_digits generator digit parity_at count check_mask touches_info touches_by besides clashes syndrome cleared check_at voting voters votes decide decide_frame decided figure_by
   figure-P = let t = takes own calls_p_first taken-by.1 in claims.figure_by_rule calls_p_first ∙ ap₂ (figure_by P) t.0 t.1
 
-pub receives-T : (s : Session) → s ≡ open_of first_circuit T → Claims T s → ReceivesT first_circuit s
+pub receives-T : (s : Session Held) → s ≡ open_of first_circuit T → Claims T s → ReceivesT first_circuit s
 receives-T s own claims = example.receives-T first_circuit decoded s claims.by_rule (takes own calls_t taken-by.4) (takes own calls_t_lost taken-by.5)

@@ -7,10 +7,11 @@ use Rattle.majority.specs.AsSent.{Correctable}
 use Rattle.majority.specs.Rule.{decoded, figure_by}
 use Rattle.receiving.specs.Calls.{Call, taken_frames, taken_erased, session_after}
 use Rattle.receiving.specs.Claims.{ByRule}
+use Rattle.receiving.specs.declared.Session.{Session}
 use Rattle.decoder.specs.Receive.{first_circuit, link_figure_of}
-use Rattle.decoder.specs.declared.Session.{Session}
+use Rattle.decoder.specs.declared.Held.{Held}
 
-pub record Claims (c : Card) (s : Session) : Type 0 where
+pub record Claims (c : Card) (s : Session Held) : Type 0 where
   -- the rule and the third term
   pub by_rule : ByRule first_circuit decoded Correctable c s
   -- the link figure is the rule's

@@ -2,31 +2,23 @@
 -- has to believe this file: `Receive` says by it what the session does, and proofs/Follow.antt ties that to the rule.
 -- Digit a of syndrome register j is the syndrome of parity stream j at u + a, where the frame of time u is decided next.
 -- Assumes nothing.
-use Rattle.std.specs.Prelude.{ℕ, ◌+◌, ◌/◌, ◌%◌, min, cond, ◌≡◌, List, ltb, get_or, replicate}
+use Rattle.std.specs.Prelude.{ℕ, ◌+◌, ◌/◌, ◌%◌, List, get_or, replicate}
 use Rattle.std.specs.Int.Count.{ones}
 use Rattle.bits.specs.Sums.{sum_below}
 use Rattle.bits.specs.Digits.{bit, from_digits}
 use Rattle.code.specs.Registers.{history_by, syndromes_by, feedback_by, with_digits, with_words, moved_on}
 use Rattle.code.specs.declared.Sizes.{Sizes}
-use Rattle.receiving.specs.Answers.{Given, waiting, frame, refused, answer_of}
-use Rattle.receiving.specs.Readings.{Yield, yields, refuses}
 use Rattle.code.specs.ErasedDigits.{any_with, erased_with, erased_moved}
 use Rattle.vote.specs.Voters.{decide_marked}
 use Rattle.decoder.specs.declared.Held.{Held}
-use Rattle.decoder.specs.declared.Settled.{Settled}
 
 -- before the first frame
 abbrev pub nothing_held : Held
-nothing_held = record { history = replicate 4 0; syndromes = replicate 8 0; erased = replicate 8 0; any = 0 }
+nothing_held = record { history = replicate 4 0; syndromes = replicate 8 0; erased = record { registers = replicate 8 0; any = 0 } }
 
 -- the syndrome registers with the syndromes of frame f, which the history registers h have already, put in at place a
 unfoldable pub with_syndromes : List ℕ → List ℕ → List ℕ → Sizes → ℕ → ℕ → List ℕ
 with_syndromes g h y z a f = with_digits y (syndromes_by g h z.k z.p f) a
-
--- frame f put in at place a: the history and the syndrome registers before and after it
-pub record PutIn (g : List ℕ) (z : Sizes) (a f : ℕ) (h y h' y' : List ℕ) : Type 0 where
-  pub history_is : h' ≡ history_by h z.k f
-  pub syndromes_are : y' ≡ with_syndromes g h' y z a f
 
 -- the syndrome registers with the decided errors e taken out, for the next frame
 unfoldable pub fed_back : List ℕ → List ℕ → Sizes → ℕ → List ℕ
@@ -39,17 +31,21 @@ held_with_frame g h z a f e =
     record {
       history = history;
       syndromes = with_syndromes g history h.syndromes z a f;
-      erased = erased_with h.erased h.any e a;
-      any = any_with h.any e a;
+      erased = record { registers = erased_with h.erased.registers h.erased.any e a; any = any_with h.erased.any e a };
     }
 
 -- the decided errors of the frame that is decided next
 abbrev pub errors_in : List ℕ → List ℕ → List ℕ → Held → Sizes → ℕ
-errors_in g counts checks h z = decide_marked g counts checks h.syndromes h.erased h.any z
+errors_in g counts checks h z = decide_marked g counts checks h.syndromes h.erased.registers h.erased.any z
 
 -- what is held with the decided errors e fed back, for the next frame
 unfoldable pub next_held : List ℕ → Held → Sizes → ℕ → Held
-next_held g h z e = record { history = h.history; syndromes = fed_back g h.syndromes z e; erased = erased_moved h.erased h.any; any = h.any / 2 }
+next_held g h z e =
+    record {
+      history = h.history;
+      syndromes = fed_back g h.syndromes z e;
+      erased = record { registers = erased_moved h.erased.registers h.erased.any; any = h.erased.any / 2 };
+    }
 
 -- the digit of stream i that is handed out: the one m back, plus its decided error in e
 unfoldable pub corrected_digit : List ℕ → ℕ → ℕ → ℕ → ℕ
@@ -62,30 +58,3 @@ corrected_by h e k m = from_digits k (corrected_digit h e m)
 -- the ones of the first p registers
 unfoldable pub ones_by : List ℕ → ℕ → ℕ
 ones_by y p = sum_below p (λ j. ones (get_or y j 0))
-
--- ---- a frame's way
-
--- what a frame comes to: the answer, what is held then, and how many frames were taken
-pub record Step : Type 0 where
-  pub answer : Given
-  pub held : Held
-  pub received : ℕ
-
-abbrev pub step_of : Settled → Step
-step_of r = record { answer = answer_of r.answer; held = r.held; received = r.received }
-
--- the frame m before the last one received, handed out
-unfoldable pub handed_by : List ℕ → List ℕ → List ℕ → Held → Sizes → ℕ → Step
-handed_by g counts checks h z received =
-    record {
-      answer = frame (corrected_by h.history (errors_in g counts checks h z) z.k z.m);
-      held = next_held g h z (errors_in g counts checks h z);
-      received = received;
-    }
-
--- a frame, or its refusal, after so many frames taken before
-unfoldable pub settled_by : List ℕ → List ℕ → List ℕ → Held → Sizes → ℕ → Yield → Step
-settled_by g counts checks h z received (yields f e) =
-    let with = held_with_frame g h z (min received z.m) f e in
-    cond (ltb received z.m) (record { answer = waiting; held = with; received = received + 1 }) (handed_by g counts checks with z (received + 1))
-settled_by g counts checks h z received (refuses r) = record { answer = refused r; held = h; received = received }
