@@ -45,7 +45,7 @@ wrote-front {output} {s = s} w h =
     w.after_is ∙ sets-eq s output 0 (omega arith) ∙ ap (λ (n : ℕ). s ++ drop n output) (zero-add (length s))
 
 -- ---- by a cursor
-pub stored-nothing : (c : Cursor) → length c.output.now < 2 ^ 64 → Stored c c []
+pub stored-nothing : (c : Cursor) → length c.output.now < 2 ^ 63 → Stored c c []
 stored-nothing c most = record { same_output = refl; length_most = most; output_is = refl; at_is = omega arith }
 
 sets-beyond : (l : List ℕ) (i : ℕ) (s : List ℕ) → length l ≤ i → sets l i s ≡ l
@@ -75,6 +75,10 @@ stored-as {before} {after} e w = subst (λ (x : List ℕ). Stored before after x
 
 pub stored-length : {before after : Cursor} {s : List ℕ} → Stored before after s → length after.output.now ≡ length before.output.now
 stored-length {before} {s = s} w = ap length w.output_is ∙ length-sets before.output.now before.at s
+
+-- behind what was put nothing yet
+pub stored-still : {before after : Cursor} {s : List ℕ} → Stored before after s → Stored after after []
+stored-still {after = after} w = stored-nothing after (omega (arith, stored-length w, w.length_most))
 
 -- from the front on, where there is room for them all: the bytes, and the rest of the output as it was
 pub stored-front : {before after : Cursor} {s : List ℕ} → Stored before after s → before.at ≡ 0 → length s ≤ length before.output.now

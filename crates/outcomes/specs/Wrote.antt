@@ -13,6 +13,6 @@ pub record Wrote (output : List ℕ) (at : ℕ) (written after : List ℕ) (end 
 -- by a cursor, from its place on, which moves behind them, as far as a number names places; the output is the same one
 pub record Stored (before after : Cursor) (written : List ℕ) : Type 0 where
   pub same_output : after.output.ghost_name ≡ before.output.ghost_name
-  pub length_most : length before.output.now < 2 ^ 64
+  pub length_most : length before.output.now < 2 ^ 63
   pub output_is : after.output.now ≡ sets before.output.now before.at written
   pub at_is : after.at ≡ before.at + min (length written) (2 ^ 64 - 1 - before.at)

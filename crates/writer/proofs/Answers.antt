@@ -1,7 +1,7 @@
 -- What writing a card comes to: under each condition, and from what was laid out in no room, which counts the bytes, and in the output.
-use Prim.Native.Nat.{ℕ, ◌-◌, ◌≤◌, ◌<◌, min}
+use Prim.Native.Nat.{ℕ, ◌≤◌, ◌<◌}
 use mathlib.Core.Path.{◌≡◌, refl, sym, ap, ap₂, ◌∙◌}
-use mathlib.Core.List.{List, [], ◌∷◌, ◌++◌}
+use mathlib.Core.List.{List, ◌++◌}
 use native.Mathlib.Omega.{arith}
 use lib.ListN.{length, drop, length-append}
 use lib.IntN.{pos, neg_ℤ}
@@ -15,10 +15,11 @@ use Rattle.card.specs.Refusals.{number_of}
 use Rattle.card.specs.declared.Refusal.{Refusal}
 use Rattle.card.proofs.CardLength.{head-size}
 use Rattle.outcomes.specs.Outcome.{BurstOutcome, outcome, answer_of, refused_of, given_of, under_card}
-use Rattle.outcomes.specs.Wrote.{Wrote}
+use Rattle.outcomes.specs.Wrote.{Stored}
+use Rattle.outcomes.specs.declared.cursor.Cursor.{Cursor}
 use Rattle.outcomes.proofs.Outcomes.{no-refusal, refused-is, given_is, fitted_short, fitted-given}
-use Rattle.outcomes.proofs.Writing.{wrote_as, wrote-length, wrote-front}
-use Rattle.card.specs.Written.{fields_with, fields_of, written}
+use Rattle.outcomes.proofs.Writing.{stored-front}
+use Rattle.card.specs.Written.{fields_of, written}
 use Rattle.writer.specs.Outcome.{write_under, write_of}
 use Rattle.writer.specs.Claims.{ReadsAs}
 
@@ -56,36 +57,17 @@ module _ (c : Card) (output : List ℕ) where
   never-refused refusal l e =
       no-refusal (number_of refusal) (length (written c)) (written-some c) (ap (λ (b : BurstOutcome). b.answer) (e ∙ write-given l))
 
--- ---- what was laid out
+-- ---- what was laid out from the front on: in no room, which counts the bytes, and in the output
+module _ (c : Card) {room counted : Cursor} (w : Stored room counted (written c)) (none : room.at ≡ 0) (output : List ℕ) where
+  pub answer-short : length output < counted.at → outcome (neg_ℤ (pos 13)) output ≡ write_under c output
+  answer-short l = refused-is 13 output refl ∙ sym (write-short c output (omega (arith, w.at_is)))
 
--- the numbers that are held to what the tables have places for
-pub laid-is : (c : Card) {k p m : ℕ} → k ≡ min c.k 4 → p ≡ min c.p (8 - k) → m ≡ min c.m 31
-    → layout (fields_with c.number k p m c.generators c.counts c.checks) ≡ written c
-unfolding written fields_of
-laid-is c ek ep em = rw (em, ep, ek)
-
-empty : (l : List ℕ) → length l ≡ 0 → l ≡ []
-empty [] e = refl
-empty (x ∷ l) e = absurd (omega arith)
-
--- `none` is what the first call leaves of no room
-module _ (c : Card) (output : List ℕ) {none : List ℕ} {count : ℕ} {s : List ℕ} (e : s ≡ written c) (w : Wrote [] 0 s none count) where
-  counted : count ≡ length (written c)
-  counted = omega (arith, w.end_is, ap length e)
-
-  still : none ++ output ≡ output
-  still = ap (λ (l : List ℕ). l ++ output) (empty none (wrote-length w))
-
-  pub answer-short : length (none ++ output) < count → outcome (neg_ℤ (pos 13)) (none ++ output) ≡ write_under c output
-  answer-short l =
-      ap (λ (o : List ℕ). outcome (neg_ℤ (pos 13)) o) still
-      ∙ refused-is 13 output refl
-      ∙ sym (write-short c output (omega (arith, counted, ap length still)))
-
-  pub answer-count : {after : List ℕ} {r : ℕ} → count ≤ length (none ++ output) → Wrote (none ++ output) 0 s after r
-      → outcome (pos count) after ≡ write_under c output
-  answer-count l v =
-      let room : length (written c) ≤ length (none ++ output) = omega (arith, counted) in
-      let front = wrote-front (wrote_as e v) room in
-      given_is count (written c) output (sym counted) refl (front ∙ ap₂ (λ (n : ℕ) (l : List ℕ). written c ++ drop n l) (sym counted) still)
-      ∙ sym (write-given c output (omega (arith, ap length still)))
+  pub answer-count : {front after : Cursor} → counted.at ≤ length output → Stored front after (written c) → front.at ≡ 0 → front.output.now ≡ output
+      → outcome (pos after.at) after.output.now ≡ write_under c output
+  answer-count {front} {after} l v start e =
+      let whole : length front.output.now ≡ length output = ap length e in
+      let few : length (written c) ≤ length output = omega (arith, w.at_is, v.length_most) in
+      let count : length (written c) ≡ after.at = omega (arith, v.at_is, v.length_most) in
+      given_is after.at (written c) output count refl
+      (stored-front v start (omega arith) ∙ ap₂ (λ (n : ℕ) (l : List ℕ). written c ++ drop n l) count e)
+      ∙ sym (write-given c output few)

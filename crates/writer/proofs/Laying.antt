@@ -1,18 +1,27 @@
 -- The layout of a card with one mask, one row, one check or one stream more at the end: what one turn of a loop adds.
-use Prim.Native.Nat.{ℕ, zero, suc, ◌+◌, ◌*◌, ◌/◌, ◌%◌, ◌^◌, ◌≤◌, ◌<◌, min}
+use Prim.Native.Nat.{ℕ, zero, suc, ◌+◌, ◌-◌, ◌*◌, ◌/◌, ◌%◌, ◌^◌, ◌≤◌, ◌<◌, min}
 use mathlib.Core.Path.{◌≡◌, refl, sym, ap, ap₂, ◌∙◌}
 use mathlib.Core.List.{List, [], ◌∷◌, ◌++◌, map, append-nil, append_assoc, map-append}
-use native.Mathlib.Nat.{lt_of_lt_of_le}
+use native.Mathlib.Nat.{lt_of_lt_of_le, mul-le-mul_right}
 use native.Mathlib.Numerals.{add-one}
 use native.Mathlib.Omega.{arith}
-use lib.ListN.{length, get_or, length-append}
+use lib.ListN.{length, get_or, take, drop, length-append, length-drop}
+use lib.Seq.{length-take-le, get_or-drop}
 use lib.Pow.{pow_mono, shl_exact}
+use lib.Dec.{eqb}
+use mathlib.Core.Bool.{not}
+use mathlib.Core.Logic.{⊎_elim}
+use mir.Val.{bool_byte}
+use borrow.Author.Tests.{eq-eqb, ne_eqb}
+use Rattle.bits.proofs.Cases.{same_or_not}
+use Rattle.std.proofs.lemmas.List.{take_more}
 use Rattle.bits.specs.Sums.{up_to}
 use Rattle.bits.proofs.Lists.{up_to-length, up_to-more}
 use Rattle.card.specs.Fields.{Stream}
 use Rattle.code.specs.Limits.{most_checks, check_start}
 use Rattle.card.specs.Layout.{stands, map_of, layout_masks, optional, layout_head, all_rows, layout_rows, layout_checks, layout_streams}
 use Rattle.card.proofs.LayoutLaws as laws
+use Rattle.card.proofs.CardLength.{few-generators}
 use Rattle.card.specs.Written.{stated, head_of, masks_at, rows_of, checks_of, stream_of, streams_of}
 
 -- ---- the head
@@ -28,42 +37,50 @@ map-placed vs ws {n} e h =
     ∙ ap (λ l. map_of vs + map_of ws * 2 ^ l) (sym e)
     ∙ sym (laws.map-append vs ws ∙ (omega arith))
 
-map-within : (vs : List ℕ) {p n : ℕ} → length vs ≡ p → p ≤ n → map_of vs < 2 ^ n
+pub map-within : (vs : List ℕ) {p n : ℕ} → length vs ≡ p → p ≤ n → map_of vs < 2 ^ n
 map-within vs {n = n} e h = lt_of_lt_of_le (laws.map-lt vs) (pow_mono {i = length vs} {j = n} (omega arith))
 
--- ---- the masks of p parity streams, from a place of a table on
+-- ---- masks
+
+-- a mask's bit of its map, as the code has it
+pub stands-is : (v : ℕ) → bool_byte (not (eqb v 0)) ≡ stands v
+unfolding stands
+stands-is v = ⊎_elim (λ e. rw (eq-eqb v 0 e)) (λ n. rw (ne_eqb v 0 n)) (same_or_not v 0)
+
+module _ (masks : List ℕ) (j : ℕ) (h : j < length masks) where
+  masks-more : take (j + 1) masks ≡ take j masks ++ (get_or masks j 0 ∷ [])
+  masks-more = take_more masks j 0 h
+
+  pub masks-next : layout_masks (take j masks) ++ layout_masks (get_or masks j 0 ∷ []) ≡ layout_masks (take (j + 1) masks)
+  masks-next = sym (ap layout_masks masks-more ∙ laws.masks-append (take j masks) (get_or masks j 0 ∷ []))
+
+  -- the map of the masks passed, x, with this mask's digit d put at its place
+  pub map_next : {x d : ℕ} → length masks ≤ 8 → x ≡ map_of (take j masks) → d ≡ stands (get_or masks j 0)
+      → x + d * 2 ^ j % 4294967296 ≡ map_of (take (j + 1) masks)
+  unfolding map_of
+  map_next few e q =
+      let one : stands (get_or masks j 0) ≡ map_of (get_or masks j 0 ∷ []) = omega arith in
+      ap₂ (λ m n. m + n * 2 ^ j % 4294967296) e (q ∙ one)
+      ∙ map-placed (take j masks) (get_or masks j 0 ∷ []) (length-take-le j masks (omega arith)) (omega arith)
+      ∙ sym (ap map_of masks-more)
+
+-- those of p parity streams, as a part of a table
 module _ (table : List ℕ) (start : ℕ) where
   pub masks-count : (p : ℕ) → length (masks_at table start p) ≡ p
   unfolding masks_at
   masks-count p = up_to-length p (λ j. get_or table (start + j) 0)
 
-  module _ (j : ℕ) where
-    abbrev mask : ℕ
-    mask = get_or table (start + j) 0
+  part : (p : ℕ) → start + p ≤ length table → take p (drop start table) ≡ masks_at table start p
+  unfolding up_to masks_at
+  part zero h = refl
+  part (suc p) h =
+      ap (λ (n : ℕ). take n (drop start table)) (sym (add-one p))
+      ∙ take_more (drop start table) p 0 (omega (arith, length-drop start table))
+      ∙ ap₂ (λ (l : List ℕ) (v : ℕ). l ++ (v ∷ [])) (part p (omega arith)) (get_or-drop start table p 0)
 
-    masks-more : masks_at table start (j + 1) ≡ masks_at table start j ++ (mask ∷ [])
-    unfolding masks_at
-    masks-more = up_to-more j (λ i. get_or table (start + i) 0)
-
-    pub masks-next : {v : ℕ} → v ≡ mask
-        → layout_masks (masks_at table start j) ++ layout_masks (v ∷ []) ≡ layout_masks (masks_at table start (j + 1))
-    masks-next e =
-        ap (λ v. layout_masks (masks_at table start j) ++ layout_masks (v ∷ [])) e
-        ∙ sym (ap layout_masks masks-more ∙ laws.masks-append (masks_at table start j) (mask ∷ []))
-
-    -- the map of the masks passed, x, with this mask's digit d put at its place
-    pub map_next : {x d : ℕ} → j < 32 → x ≡ map_of (masks_at table start j) → d ≡ stands mask
-        → x + d * 2 ^ j % 4294967296 ≡ map_of (masks_at table start (j + 1))
-    unfolding map_of
-    map_next h e q =
-        let one : stands mask ≡ map_of (mask ∷ []) = omega arith in
-        let place : length (masks_at table start j) ≡ j = masks-count j in
-        ap₂ (λ m n. m + n * 2 ^ j % 4294967296) e (q ∙ one)
-        ∙ map-placed (masks_at table start j) (mask ∷ []) place (omega arith)
-        ∙ sym (ap map_of masks-more)
-
-  pub map_below : (p n : ℕ) → p ≤ n → map_of (masks_at table start p) < 2 ^ n
-  map_below p n h = map-within (masks_at table start p) (masks-count p) h
+  -- as a slice of n of them
+  pub part-is : {n p : ℕ} → n ≡ p → start + p ≤ length table → take (start + n - start) (drop start table) ≡ masks_at table start p
+  part-is {n} {p} e h = let m : start + n - start ≡ p = omega arith in ap (λ (n : ℕ). take n (drop start table)) m ∙ part p h
 
 -- ---- the generators of k information streams
 all_append : (rows : List (List ℕ)) (vs : List ℕ) → all_rows (rows ++ (vs ∷ [])) ≡ all_rows rows ++ vs
@@ -97,6 +114,10 @@ module _ (table : List ℕ) (p : ℕ) where
       ∙ map-placed (all_rows (rows_of table i p)) (masks_at table (i * 8) p) (rows-count i) (omega (arith, masks-count table (i * 8) p))
       ∙ sym (ap map_of (rows_more i))
 
+  -- row i has its p generators within those of all
+  pub row_within : (i k : ℕ) → i < k → k ≤ 4 → k + p ≤ 8 → i * p + p ≤ 16
+  row_within i k l h n = omega (arith, mul-le-mul_right {m = suc i} {n = k} p l, few-generators k p h n)
+
   pub rows-map_below : (i n : ℕ) → i * p ≤ n → map_of (all_rows (rows_of table i p)) < 2 ^ n
   rows-map_below i n h = map-within (all_rows (rows_of table i p)) (rows-count i) h
 
@@ -105,10 +126,13 @@ module _ (table : List ℕ) (p : ℕ) where
   rows_next i = sym (ap layout_masks (rows_more i) ∙ laws.masks-append (all_rows (rows_of table i p)) (masks_at table (i * 8) p))
 
 -- the generator map's two bytes, and the masks
-pub rows-parts : (rows : List (List ℕ)) {m : ℕ} → m ≡ map_of (all_rows rows)
-    → ((m % 256) ∷ []) ++ (((m / 256) ∷ []) ++ layout_masks (all_rows rows)) ≡ layout_rows rows
+pub rows-parts : (rows : List (List ℕ)) {m : ℕ} → m < 65536 → m ≡ map_of (all_rows rows)
+    → (m % 256 ∷ m / 256 % 256 ∷ []) ++ layout_masks (all_rows rows) ≡ layout_rows rows
 unfolding layout_rows
-rows-parts rows e = ap (λ m. m % 256 ∷ (m / 256 ∷ layout_masks (all_rows rows))) e
+rows-parts rows {m} h e =
+    let high : m / 256 % 256 ≡ m / 256 = omega arith in
+    ap (λ n. m % 256 ∷ (n ∷ layout_masks (all_rows rows))) high
+    ∙ ap (λ m. m % 256 ∷ (m / 256 ∷ layout_masks (all_rows rows))) e
 
 -- ---- the checks of an information stream
 pub check-parts : (vs : List ℕ) {m : ℕ} → m ≡ map_of vs → (m ∷ []) ++ layout_masks vs ≡ layout_checks (vs ∷ [])

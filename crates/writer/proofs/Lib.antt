@@ -1,6 +1,5 @@
 -- the code
 pub mod Laying
-pub mod Lengths
 pub mod Answers
 -- the claims
 pub mod Forms

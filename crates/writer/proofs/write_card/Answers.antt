@@ -1,22 +1,23 @@
 -- Each way out of the call by its test.
-use mathlib.Core.Path.{sym}
-use lib.Seq.{length-take-le}
-use borrow.Author.Rules.{rules}
-use Rattle.writer.proofs.Answers.{laid-is, answer-short, answer-count}
+use Rattle.std.proofs.Common.{rules}
+use Rattle.writer.proofs.Answers.{answer-short, answer-count}
 use Rattle.writer.proofs.Forms.{written-form}
 use Rattle.writer.proofs.write_card.Goals as goal
 
-pub slice_bounds-lay_out-end-2 : goal.slice_bounds-lay_out-end-2
-slice_bounds-lay_out-end-2 c = sym (length-take-le _ c.args.output.now (search rules))
-
-pub returns-then-output-count : goal.returns-then-output-count
-returns-then-output-count c =
+pub returns-then-output-counted : goal.returns-then-output-counted
+returns-then-output-counted c =
     let a = c.args in
-    let e = laid-is a.card c.at_most-k.ensures c.at_most-p.ensures c.at_most-m.ensures in
-    record { output_after = answer-short a.card a.output.now e c.lay_out-count.ensures c.if-output-count.true; written_form = written-form a.card }
+    record {
+      output_after = answer-short a.card c.lay_out.ensures c.new-counted.ensures.front.1 a.output.now c.if-output-counted.true;
+      written_form = written-form a.card;
+    }
 
-pub returns : goal.returns
-returns c =
+pub returns-clause-output_after : goal.returns-clause-output_after
+returns-clause-output_after c =
     let a = c.args in
-    let e = laid-is a.card c.at_most-k.ensures c.at_most-p.ensures c.at_most-m.ensures in
-    record { output_after = answer-count a.card a.output.now e c.lay_out-count.ensures c.if-output-count.false c.lay_out.ensures; written_form = written-form a.card }
+    let laid = answer-count a.card c.lay_out.ensures c.new-counted.ensures.front.1 a.output.now c.if-output-counted.false
+    c.lay_out-2.ensures c.new-written.ensures.front.1 c.new-written.ensures.front.0 in
+    search rules
+
+pub returns-clause-written_form : goal.returns-clause-written_form
+returns-clause-written_form c = written-form c.args.card

@@ -1,12 +1,8 @@
--- The streams passed stand in the output from `at` on.
-use Prim.Native.Nat.{◌-◌, ◌≤◌}
+-- The streams passed.
 use Rattle.card.specs.Layout.{layout_streams}
-use Rattle.outcomes.specs.Wrote.{Wrote}
-use Rattle.card.specs.Written.{streams_of}
+use Rattle.card.specs.Written.{p_of, streams_of}
+use Rattle.outcomes.specs.Wrote.{Stored}
 use Rattle.writer.proofs.parts.streams.Given as goal
 
 abbrev pub invariant-loop-i : goal.invariant-loop-i
-invariant-loop-i l = (l.i ≤ l.k) × Wrote l.initial.output l.at (layout_streams (streams_of l.counts l.checks l.i l.p)) l.output l.end
-
-abbrev pub decreases-loop-i : goal.decreases-loop-i
-decreases-loop-i l = l.k - l.i
+invariant-loop-i l = Stored l.initial.cursor l.cursor (layout_streams (streams_of l.card.counts l.card.checks l.i (p_of l.card)))
