@@ -17,8 +17,6 @@ use Rattle.card.specs.Reading.Field.{value, bad}
 use Rattle.card.specs.Reading.Read.{got, fault}
 use Rattle.card.specs.Parts.{Tables, tables_with}
 use Rattle.code.specs.declared.Card.{Card}
-use Rattle.card.specs.declared.Verdict.{Verdict}
-use Rattle.card.specs.declared.Verdict.TheVariants.{Accepted}
 use Rattle.card.proofs.Judging.{Union, union-none, judged-same, judged-union}
 use Rattle.card.proofs.FieldValues.{byte-is, standing-inside, standing-within}
 use Rattle.card.proofs.HeadStages.{map-limit}
@@ -33,18 +31,17 @@ pub record Limits (c : Card) : Type 0 where
   pub m_most : c.m < 32
 
 -- before stream i
-pub record AtStreams (bs : List ℕ) (c : Card) (r : Read Tables) (verdict : Verdict) (counts checks : List ℕ) (at i : ℕ) : Type 0 where
+pub record AtStreams (bs : List ℕ) (c : Card) (r : Read Tables) (counts checks : List ℕ) (at i : ℕ) : Type 0 where
   pub limits : Limits c
   pub stream-most : i ≤ c.k
   pub inside : at ≤ length bs
   pub long-counts : length counts ≡ 4
   pub long-checks : length checks ≡ check_words
-  pub unbroken : verdict ≡ Accepted
   pub same : rest_streams bs c i counts checks at ≡ r
 
 -- before check q of stream i, whose earlier checks touch the errors `touched`
 pub record AtChecks (bs : List ℕ) (c : Card) (r : Read Tables) (i count : ℕ) (counts : List ℕ)
-    (verdict : Verdict) (checks touched : List ℕ) (at q : ℕ) : Type 0 where
+    (checks touched : List ℕ) (at q : ℕ) : Type 0 where
   pub limits : Limits c
   pub stream-lt : i < c.k
   pub check-most : q ≤ count
@@ -52,7 +49,6 @@ pub record AtChecks (bs : List ℕ) (c : Card) (r : Read Tables) (i count : ℕ)
   pub inside : at ≤ length bs
   pub long-counts : length counts ≡ 4
   pub long-checks : length checks ≡ check_words
-  pub unbroken : verdict ≡ Accepted
   pub earlier : List (List ℕ)
   pub union : Union c earlier touched
   pub same : rest_checks bs c i count q earlier counts checks at ≡ r
@@ -65,7 +61,7 @@ pub record Seen (m : ℕ) (masks : List ℕ) (j : ℕ) (seen : List ℕ) : Type 
 
 -- before mask j of check q, whose map stands at place
 pub record AtMasks (bs : List ℕ) (c : Card) (r : Read Tables) (i count : ℕ) (counts : List ℕ) (q place : ℕ) (touched : List ℕ)
-    (verdict : Verdict) (checks masks : List ℕ) (rest at j : ℕ) : Type 0 where
+    (checks masks : List ℕ) (rest at j : ℕ) : Type 0 where
   pub limits : Limits c
   pub stream-lt : i < c.k
   pub check-lt : q < count
@@ -75,7 +71,6 @@ pub record AtMasks (bs : List ℕ) (c : Card) (r : Read Tables) (i count : ℕ) 
   pub long-counts : length counts ≡ 4
   pub long-checks : length checks ≡ check_words
   pub long-masks : length masks ≡ 8
-  pub unbroken : verdict ≡ Accepted
   pub earlier : List (List ℕ)
   pub union : Union c earlier touched
   pub seen : List ℕ
@@ -111,13 +106,13 @@ place hi hk hq hn hj hp =
       bytes_fit = omega arith;
     }
 
-pub place_of : {bs : List ℕ} {c : Card} {r : Read Tables} {i count : ℕ} {counts : List ℕ} {q at₀ : ℕ} {touched : List ℕ} {verdict : Verdict} {checks masks : List ℕ} {rest at j : ℕ}
-    → AtMasks bs c r i count counts q at₀ touched verdict checks masks rest at j → j < c.p → Place i q j
+pub place_of : {bs : List ℕ} {c : Card} {r : Read Tables} {i count : ℕ} {counts : List ℕ} {q at₀ : ℕ} {touched : List ℕ} {checks masks : List ℕ} {rest at j : ℕ}
+    → AtMasks bs c r i count counts q at₀ touched checks masks rest at j → j < c.p → Place i q j
 place_of v l = place v.stream-lt v.limits.k_most v.check-lt v.count_most l v.limits.p-most
 
 -- a check whose masks are all read is judged as the definition has it
-module _ {bs : List ℕ} {c : Card} {r : Read Tables} {i count : ℕ} {counts : List ℕ} {q at₀ : ℕ} {touched : List ℕ} {verdict : Verdict} {checks masks : List ℕ} {rest at j : ℕ}
-    (v : AtMasks bs c r i count counts q at₀ touched verdict checks masks rest at j) (whole : c.p ≤ j) {number : ℕ} {after : List ℕ}
+module _ {bs : List ℕ} {c : Card} {r : Read Tables} {i count : ℕ} {counts : List ℕ} {q at₀ : ℕ} {touched : List ℕ} {checks masks : List ℕ} {rest at j : ℕ}
+    (v : AtMasks bs c r i count counts q at₀ touched checks masks rest at j) (whole : c.p ≤ j) {number : ℕ} {after : List ℕ}
     (P : Passed (word_code c.generators (information_streams c.k) (parity_streams c.k c.p)) i (first_masks (parity_streams c.k c.p) masks) touched number after) where
   all_seen : length v.seen ≡ c.p
   all_seen = v.seen_are.many ∙ le_antisymm v.mask-most whole
@@ -148,7 +143,7 @@ seen_more {m} {masks} {j} {seen} {v} l h s =
 
 -- ---- the turns, faults and ends
 pub streams-begin : (bs : List ℕ) (c : Card) (start : ℕ) {counts checks : List ℕ} → Limits c → start ≤ length bs → counts ≡ replicate 4 0 → checks ≡ replicate check_words 0
-    → AtStreams bs c (read_mapped (tables_with 0 (replicate 4 0) (replicate check_words 0)) (read_streams bs c c.k 0 start)) Accepted counts checks start 0
+    → AtStreams bs c (read_mapped (tables_with 0 (replicate 4 0) (replicate check_words 0)) (read_streams bs c c.k 0 start)) counts checks start 0
 streams-begin bs c start l h e q =
     record {
       limits = l;
@@ -156,13 +151,12 @@ streams-begin bs c start l h e q =
       inside = h;
       long-counts = ap length e;
       long-checks = ap length q;
-      unbroken = refl;
       same = ap₂ (λ x y. rest_streams bs c 0 x y start) e q ∙ streams-start bs c (replicate 4 0) (replicate check_words 0) start;
     }
 
-module _ {bs : List ℕ} {c : Card} {r : Read Tables} {verdict : Verdict} {counts checks : List ℕ} {at i : ℕ} where
-  pub checks-begin : {count : ℕ} → AtStreams bs c r verdict counts checks at i → i < c.k → byte_field bs at 1 most_checks 7 ≡ value count
-      → AtChecks bs c r i count (set counts i count) verdict checks (replicate 8 0) (at + 1) 0
+module _ {bs : List ℕ} {c : Card} {r : Read Tables} {counts checks : List ℕ} {at i : ℕ} where
+  pub checks-begin : {count : ℕ} → AtStreams bs c r counts checks at i → i < c.k → byte_field bs at 1 most_checks 7 ≡ value count
+      → AtChecks bs c r i count (set counts i count) checks (replicate 8 0) (at + 1) 0
   checks-begin v l e =
       let b = byte-is _ _ _ _ _ _ e in
       record {
@@ -173,21 +167,20 @@ module _ {bs : List ℕ} {c : Card} {r : Read Tables} {verdict : Verdict} {count
         inside = next-most b.inside;
         long-counts = simp length-set v.long-counts;
         long-checks = v.long-checks;
-        unbroken = v.unbroken;
         earlier = [];
         union = union-none c;
         same = sym (streams-turn bs c i counts checks at l e) ∙ v.same;
       }
 
-  pub streams-stop : {n o : ℕ} → AtStreams bs c r verdict counts checks at i → i < c.k → byte_field bs at 1 most_checks 7 ≡ bad n o → fault n o ≡ r
+  pub streams-stop : {n o : ℕ} → AtStreams bs c r counts checks at i → i < c.k → byte_field bs at 1 most_checks 7 ≡ bad n o → fault n o ≡ r
   streams-stop v l e = sym (streams-fault bs c i counts checks at l e) ∙ v.same
 
-  pub streams-whole : AtStreams bs c r verdict counts checks at i → c.k ≤ i → got (record { counts = counts; checks = checks }) at ≡ r
+  pub streams-whole : AtStreams bs c r counts checks at i → c.k ≤ i → got (record { counts = counts; checks = checks }) at ≡ r
   streams-whole v l = sym (streams-end bs c i counts checks at l) ∙ v.same
 
-  module _ {count q : ℕ} {touched : List ℕ} (v : AtChecks bs c r i count counts verdict checks touched at q) where
+  module _ {count q : ℕ} {touched : List ℕ} (v : AtChecks bs c r i count counts checks touched at q) where
     pub masks-begin : {map : ℕ} → q < count → byte_field bs at 0 (1 * 2 ^ c.p % 4294967296 - 1) 5 ≡ value map
-        → AtMasks bs c r i count counts q at touched verdict checks (replicate 8 0) map (at + 1) 0
+        → AtMasks bs c r i count counts q at touched checks (replicate 8 0) map (at + 1) 0
     masks-begin l e =
         record {
           limits = v.limits;
@@ -199,7 +192,6 @@ module _ {bs : List ℕ} {c : Card} {r : Read Tables} {verdict : Verdict} {count
           long-counts = v.long-counts;
           long-checks = v.long-checks;
           long-masks = refl;
-          unbroken = v.unbroken;
           earlier = v.earlier;
           union = v.union;
           seen = [];
@@ -210,7 +202,7 @@ module _ {bs : List ℕ} {c : Card} {r : Read Tables} {verdict : Verdict} {count
     pub checks-stop : {n o : ℕ} → q < count → byte_field bs at 0 (1 * 2 ^ c.p % 4294967296 - 1) 5 ≡ bad n o → fault n o ≡ r
     checks-stop l e = sym (checks-fault bs c i count q v.earlier counts checks at l (map-limit bs at c.p v.limits.p-most e)) ∙ v.same
 
-    pub streams-next : count ≤ q → AtStreams bs c r verdict counts checks at (i + 1)
+    pub streams-next : count ≤ q → AtStreams bs c r counts checks at (i + 1)
     streams-next l =
         record {
           limits = v.limits;
@@ -218,13 +210,12 @@ module _ {bs : List ℕ} {c : Card} {r : Read Tables} {verdict : Verdict} {count
           inside = v.inside;
           long-counts = v.long-counts;
           long-checks = v.long-checks;
-          unbroken = v.unbroken;
           same = sym (checks-end bs c i count q v.earlier counts checks at l) ∙ v.same;
         }
 
-  module _ {count q place : ℕ} {touched masks : List ℕ} {rest j : ℕ} (v : AtMasks bs c r i count counts q place touched verdict checks masks rest at j) where
+  module _ {count q place : ℕ} {touched masks : List ℕ} {rest j : ℕ} (v : AtMasks bs c r i count counts q place touched checks masks rest at j) where
     pub masks-next : {x : ℕ} → j < c.p → standing_mask bs at c.m (rest % 2) ≡ value x
-        → AtMasks bs c r i count counts q place touched verdict (set checks (check_start i q + j) x) (set masks j x) (rest / 2) (at + rest % 2 * 4) (j + 1)
+        → AtMasks bs c r i count counts q place touched (set checks (check_start i q + j) x) (set masks j x) (rest / 2) (at + rest % 2 * 4) (j + 1)
     masks-next {x} l e =
         record {
           limits = v.limits;
@@ -236,7 +227,6 @@ module _ {bs : List ℕ} {c : Card} {r : Read Tables} {verdict : Verdict} {count
           long-counts = v.long-counts;
           long-checks = simp length-set v.long-checks;
           long-masks = simp length-set v.long-masks;
-          unbroken = v.unbroken;
           earlier = v.earlier;
           union = v.union;
           seen = v.seen ++ (x ∷ []);
@@ -250,7 +240,7 @@ module _ {bs : List ℕ} {c : Card} {r : Read Tables} {verdict : Verdict} {count
     -- the check is whole, and is judged
     module _ (whole : c.p ≤ j) {number : ℕ} {after : List ℕ}
         (P : Passed (word_code c.generators (information_streams c.k) (parity_streams c.k c.p)) i (first_masks (parity_streams c.k c.p) masks) touched number after) where
-      pub checks-next : number ≡ 0 → AtChecks bs c r i count counts verdict checks after at (q + 1)
+      pub checks-next : number ≡ 0 → AtChecks bs c r i count counts checks after at (q + 1)
       checks-next e =
           record {
             limits = v.limits;
@@ -260,7 +250,6 @@ module _ {bs : List ℕ} {c : Card} {r : Read Tables} {verdict : Verdict} {count
             inside = v.inside;
             long-counts = v.long-counts;
             long-checks = v.long-checks;
-            unbroken = v.unbroken;
             earlier = v.seen ∷ v.earlier;
             union = judged-errors v whole P e;
             same = sym (check-stands bs c i count q v.earlier counts place v.seen j checks rest at whole (judged-number v whole P ∙ e)) ∙ v.same;

@@ -1,13 +1,15 @@
 -- What is known where a field has a value.
+use Rattle.std.specs.Prelude.{Result, Ok, Err}
 use Prim.Native.Nat.{ℕ, ◌+◌, ◌-◌, ◌*◌, ◌/◌, ◌^◌, ◌≤◌, ◌<◌}
-use mathlib.Core.Path.{◌≡◌, sym, ap, ◌∙◌}
+use mathlib.Core.Path.{◌≡◌, refl, sym, ap, ◌∙◌}
 use mathlib.Core.Bool.{true, false}
 use mathlib.Core.List.{List}
 use mathlib.Core.Logic.{⊎_elim}
 use native.Mathlib.Nat.{div-lt_iff_lt-mul, pow-succ'}
 use native.Mathlib.Numerals.{add-one}
 use native.Mathlib.Omega.{arith}
-use lib.ListN.{length, get_or}
+use lib.ListN.{length, get_or, take, drop, length-drop}
+use lib.Seq.{take_all, get_or-drop}
 use lib.Dec.{leb, ltb, eqb}
 use lib.Pow.{pow_pos}
 use borrow.Author.Tests.{lt-leb, le-leb, ltb-true, leb-true, eqb-true, eqb-false}
@@ -18,9 +20,7 @@ use Rattle.card.specs.Refusals.{number_of}
 use Rattle.card.specs.Parts.{field_of}
 use Rattle.card.specs.declared.CardRule.{CardRule}
 use Rattle.card.specs.declared.CardRule.TheVariants.{Former, Present}
-use Rattle.card.specs.declared.Refusal.{Refusal}
-use Rattle.card.specs.declared.fields.FieldRead.{FieldRead}
-use Rattle.card.specs.declared.fields.FieldRead.TheVariants.{Value, Fault}
+use Rattle.card.specs.declared.Fault.{Fault}
 
 pub not-value : {A : Type 0} {n o v : ℕ} → bad n o ≡ value v → A
 not-value e = let z : ◌≡◌ {A = ℕ} 0 1 = cc in absurd (omega arith)
@@ -28,12 +28,23 @@ not-value e = let z : ◌≡◌ {A = ℕ} 0 1 = cc in absurd (omega arith)
 pub value_same : {x v : ℕ} → value x ≡ value v → x ≡ v
 value_same e = cc
 
--- a field of w bytes ends within the bytes, or is cut short, as the program tests it
-pub ends-inside : {at len w : ℕ} → at ≤ len → w ≤ len - at → leb (at + w) len ≡ true
-ends-inside {at} {len} {w} h l = le-leb (at + w) len (omega arith)
+-- ---- the bytes from an offset on, as the program takes them apart
+module _ (bs : List ℕ) (at : ℕ) where
+  abbrev from : List ℕ
+  from = take (length bs - at) (drop at bs)
 
-pub ends-beyond : {at len w : ℕ} → at ≤ len → len - at < w → leb (at + w) len ≡ false
-ends-beyond {at} {len} {w} h l = lt-leb (at + w) len (omega arith)
+  from-is : from ≡ drop at bs
+  from-is = take_all (length bs - at) (drop at bs) (omega (arith, length-drop at bs))
+
+  pub from-at : (i : ℕ) → get_or from i 0 ≡ get_or bs (at + i) 0
+  from-at i = ap (λ xs. get_or xs i 0) from-is ∙ get_or-drop at bs i 0
+
+  -- a field of w bytes ends within them, or is cut short
+  pub ends-inside : {w : ℕ} → at ≤ length bs → w ≤ length from → leb (at + w) (length bs) ≡ true
+  ends-inside {w} h l = le-leb (at + w) (length bs) (omega (arith, ap length from-is, length-drop at bs))
+
+  pub ends-beyond : {w : ℕ} → at ≤ length bs → length from < w → leb (at + w) (length bs) ≡ false
+  ends-beyond {w} h l = lt-leb (at + w) (length bs) (omega (arith, ap length from-is, length-drop at bs))
 
 pub record ByteIs (bs : List ℕ) (at low high v : ℕ) : Type 0 where
   pub inside : at < length bs
@@ -63,6 +74,11 @@ byte-is bs at low high number v e =
     (picked (leb low (get_or bs at 0)) h.1))
     (λ h. not-value h.1)
     (picked (ltb at (length bs)) e)
+
+pub standing-bad : (rule : CardRule) (default at n o : ℕ) → standing_field rule default at (bad n o) ≡ bad n o
+unfolding standing_field
+standing-bad Former default at n o = refl
+standing-bad Present default at n o = refl
 
 -- a field that stands has the value that was read, ..
 pub standing-is : (rule : CardRule) (default at : ℕ) (f : Field) (v : ℕ) → standing_field rule default at f ≡ value v → f ≡ value v
@@ -174,8 +190,8 @@ standing-within bs at m d v e =
     (picked (eqb d 1) e)
 
 -- ---- the field that the program holds
-pub has_value : {r : FieldRead} {f : Field} {v : ℕ} → field_of r ≡ f → r ≡ Value v → f ≡ value v
+pub has_value : {r : Result ℕ Fault} {f : Field} {v : ℕ} → field_of r ≡ f → r ≡ Ok v → f ≡ value v
 has_value e q = sym e ∙ ap field_of q
 
-pub has-fault : {r : FieldRead} {f : Field} {x : Refusal} {o : ℕ} → field_of r ≡ f → r ≡ Fault x o → f ≡ bad (number_of x) o
+pub has-fault : {r : Result ℕ Fault} {f : Field} {x : Fault} → field_of r ≡ f → r ≡ Err x → f ≡ bad (number_of x.refusal) x.offset
 has-fault e q = sym e ∙ ap field_of q

@@ -1,6 +1,6 @@
 -- The rest of the generators from where the loops of `read_generators` stand: one law for each turn, fault and end, and what the loops keep.
 use Prim.Native.Nat.{ℕ, ◌+◌, ◌-◌, ◌*◌, ◌/◌, ◌%◌, ◌^◌, ◌≤◌, ◌<◌, zero-le}
-use mathlib.Core.Path.{◌≡◌, refl, sym, ap, ap₂, ◌∙◌}
+use mathlib.Core.Path.{◌≡◌, sym, ap, ap₂, ◌∙◌}
 use mathlib.Core.List.{List, ◌∷◌}
 use native.Mathlib.Nat.{sub-zero, add-zero, add_assoc, div-div-eq-div-mul, pow-succ'}
 use native.Mathlib.Omega.{arith}
@@ -10,8 +10,6 @@ use Rattle.card.specs.Reading.{Read, next, read_mapped, standing_mask, map_field
 use Rattle.card.specs.Reading.Field.{value, bad}
 use Rattle.card.specs.Reading.Read.{got, fault}
 use Rattle.card.specs.declared.parts.Sizes.{Sizes}
-use Rattle.card.specs.declared.Verdict.{Verdict}
-use Rattle.card.specs.declared.Verdict.TheVariants.{Accepted}
 use Rattle.card.proofs.FieldValues.{map_is, standing-inside}
 use Rattle.card.proofs.Rest.{next_is-map, next_map, next-next, next-same, one_less, none_left, masks-turn, masks-fault}
 
@@ -73,56 +71,52 @@ module _ (bs : List ℕ) (z : Sizes) where
       (λ vs at₁. ap₂ (λ a x. rest_rows (i + 1) (store a vs (set generators (i * 8 + j) v)) x at₁) (further i j) (halved map z.p j h))
 
 -- ---- what the loops keep, before row i and before mask j of row i; r is the whole answer
-pub record AtRows (bs : List ℕ) (z : Sizes) (r : Read (List ℕ)) (verdict : Verdict) (generators : List ℕ) (rest at i : ℕ) : Type 0 where
+pub record AtRows (bs : List ℕ) (z : Sizes) (r : Read (List ℕ)) (generators : List ℕ) (rest at i : ℕ) : Type 0 where
   pub row-most : i ≤ z.k
   pub inside : at ≤ length bs
   pub long : length generators ≡ 32
-  pub unbroken : verdict ≡ Accepted
   pub same : rest_rows bs z i generators rest at ≡ r
 
-pub record AtRow (bs : List ℕ) (z : Sizes) (r : Read (List ℕ)) (i : ℕ) (verdict : Verdict) (generators : List ℕ) (rest at j : ℕ) : Type 0 where
+pub record AtRow (bs : List ℕ) (z : Sizes) (r : Read (List ℕ)) (i : ℕ) (generators : List ℕ) (rest at j : ℕ) : Type 0 where
   pub mask-most : j ≤ z.p
   pub inside : at ≤ length bs
   pub long : length generators ≡ 32
-  pub unbroken : verdict ≡ Accepted
   pub same : rest_row bs z i j generators rest at ≡ r
 
 -- ---- the turns, faults and ends
 pub rows-begin : (bs : List ℕ) (z : Sizes) (start : ℕ) {generators : List ℕ} {map : ℕ} → generators ≡ replicate 32 0 → map_field bs start (z.k * z.p) ≡ value map
-    → AtRows bs z (read_mapped (λ rows. store_rows 0 rows (replicate 32 0)) (read_generators bs start z.k z.p z.m)) Accepted generators map (start + 2) 0
+    → AtRows bs z (read_mapped (λ rows. store_rows 0 rows (replicate 32 0)) (read_generators bs start z.k z.p z.m)) generators map (start + 2) 0
 rows-begin bs z start {generators} {map} empty e =
     record {
       row-most = zero-le;
       inside = (map_is bs start (z.k * z.p) _ e).inside;
       long = ap length empty;
-      unbroken = refl;
       same = ap (λ x. rest_rows bs z 0 x map (start + 2)) empty ∙ rows_start bs z start e;
     }
 
-module _ {bs : List ℕ} {z : Sizes} {r : Read (List ℕ)} {verdict : Verdict} {generators : List ℕ} {rest at i : ℕ} where
-  module _ (v : AtRows bs z r verdict generators rest at i) where
-    pub row-begin : i < z.k → AtRow bs z r i verdict generators rest at 0
+module _ {bs : List ℕ} {z : Sizes} {r : Read (List ℕ)} {generators : List ℕ} {rest at i : ℕ} where
+  module _ (v : AtRows bs z r generators rest at i) where
+    pub row-begin : i < z.k → AtRow bs z r i generators rest at 0
     row-begin l =
-        record { mask-most = zero-le; inside = v.inside; long = v.long; unbroken = v.unbroken; same = sym (rows-turn bs z i generators rest at l) ∙ v.same }
+        record { mask-most = zero-le; inside = v.inside; long = v.long; same = sym (rows-turn bs z i generators rest at l) ∙ v.same }
 
     pub rows_whole : z.k ≤ i → got generators at ≡ r
     rows_whole l = sym (rows_end bs z i generators rest at l) ∙ v.same
 
-  module _ {j : ℕ} (v : AtRow bs z r i verdict generators rest at j) where
+  module _ {j : ℕ} (v : AtRow bs z r i generators rest at j) where
     pub row_next : {x : ℕ} → j < z.p → standing_mask bs at z.m (rest % 2) ≡ value x
-        → AtRow bs z r i verdict (set generators (i * 8 + j) x) (rest / 2) (at + rest % 2 * 4) (j + 1)
+        → AtRow bs z r i (set generators (i * 8 + j) x) (rest / 2) (at + rest % 2 * 4) (j + 1)
     row_next {x} l e =
         record {
           mask-most = omega arith;
           inside = standing-inside bs at z.m (rest % 2) x v.inside (omega arith) e;
           long = simp length-set v.long;
-          unbroken = v.unbroken;
           same = sym (row-turn bs z i j generators rest at l e) ∙ v.same;
         }
 
-    pub rows_next : i < z.k → z.p ≤ j → AtRows bs z r verdict generators rest at (i + 1)
+    pub rows_next : i < z.k → z.p ≤ j → AtRows bs z r generators rest at (i + 1)
     rows_next h l =
-        record { row-most = omega arith; inside = v.inside; long = v.long; unbroken = v.unbroken; same = sym (row-end bs z i j generators rest at l) ∙ v.same }
+        record { row-most = omega arith; inside = v.inside; long = v.long; same = sym (row-end bs z i j generators rest at l) ∙ v.same }
 
     pub row-stop : {n o : ℕ} → j < z.p → standing_mask bs at z.m (rest % 2) ≡ bad n o → fault n o ≡ r
     row-stop l e = sym (row-fault bs z i j generators rest at l e) ∙ v.same

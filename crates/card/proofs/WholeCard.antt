@@ -6,27 +6,16 @@ use native.Mathlib.Omega.{arith}
 use lib.ListN.{length, replicate}
 use borrow.Author.Tests.{lt-ltb, le-ltb}
 use Rattle.code.specs.Limits.{check_words}
-use Rattle.card.specs.Refusals.{number_of}
+use Rattle.card.specs.Outcome.{CardOutcome}
 use Rattle.card.specs.Outcome.Outcome.{accepted}
 use Rattle.card.specs.Fields.{Head, Stream, store_rows, code_of, with_checks, card_of}
 use Rattle.card.specs.Reading.{Read, read_mapped, read_head, read_generators, read_streams, read_fields, refused_card, read_under}
 use Rattle.card.specs.Reading.Read.{got, fault}
-use Rattle.card.specs.Parts.{read_by, sizes_of, code_by, Tables, tables_with}
+use Rattle.card.specs.Parts.{sizes_of, code_by, Tables, tables_with}
 use Rattle.code.specs.declared.Card.{Card}
 use Rattle.card.specs.declared.CardRule.{CardRule}
-use Rattle.card.specs.declared.Refusal.{Refusal}
-use Rattle.card.specs.declared.Verdict.{Verdict}
-use Rattle.card.specs.declared.Verdict.TheVariants.{Accepted, Refused}
 use Rattle.card.specs.declared.parts.Sizes.{Sizes}
 use Rattle.card.proofs.ReadParts.{map-got, map-faulted, head_in, generators-inside}
-
--- ---- one part: what it read, where it is accepted, and its fault, where not
-module _ {A B : Type 0} (f : A → B) (rd : Read A) (v : Verdict) (x : B) (at : ℕ) (e : read_by v x at ≡ read_mapped f rd) where
-  part-got : v ≡ Accepted → (a : A) × (rd ≡ got a at) × (f a ≡ x)
-  part-got q = map-got f rd (sym e ∙ ap (λ v. read_by v x at) q)
-
-  part-fault : {refusal : Refusal} {o : ℕ} → v ≡ Refused refusal o → rd ≡ fault (number_of refusal) o
-  part-fault q = map-faulted f rd (sym e ∙ ap (λ v. read_by v x at) q)
 
 -- ---- the answer after each part
 module _ (rule : CardRule) (bs : List ℕ) where
@@ -53,14 +42,14 @@ module _ (rule : CardRule) (bs : List ℕ) where
         unfolding read_under read_fields card_of
         whole-card l = rw (e₁, e₂, e₃, le-ltb at₂ (length bs) l)
 
--- ---- as `read_card` has them
-module _ (rule : CardRule) (bs : List ℕ) (v₁ : Verdict) (z : Sizes) (at₁ : ℕ) (e₁ : read_by v₁ z at₁ ≡ read_mapped sizes_of (read_head rule bs)) where
-  pub head-stop : {x : Refusal} {o : ℕ} → v₁ ≡ Refused x o → refused_card (number_of x) o ≡ read_under rule bs
-  head-stop q = head-refused rule bs (part-fault sizes_of (read_head rule bs) v₁ z at₁ e₁ q)
+-- ---- as `read_card` has them: each part's fault, and what it read
+module _ (rule : CardRule) (bs : List ℕ) where
+  pub head-stop : {n o : ℕ} → fault n o ≡ read_mapped sizes_of (read_head rule bs) → refused_card n o ≡ read_under rule bs
+  head-stop e = head-refused rule bs (map-faulted sizes_of (read_head rule bs) (sym e))
 
-  module _ (a₁ : v₁ ≡ Accepted) where
+  module _ {z : Sizes} {at₁ : ℕ} (e₁ : got z at₁ ≡ read_mapped sizes_of (read_head rule bs)) where
     head-got : (h : Head) × (read_head rule bs ≡ got h at₁) × (sizes_of h ≡ z)
-    head-got = part-got sizes_of (read_head rule bs) v₁ z at₁ e₁ a₁
+    head-got = map-got sizes_of (read_head rule bs) (sym e₁)
 
     -- what the head states lies within the limits
     pub record Ranges : Type 0 where
@@ -79,60 +68,59 @@ module _ (rule : CardRule) (bs : List ℕ) (v₁ : Verdict) (z : Sizes) (at₁ :
         let m = ap (λ (x : Sizes). x.m) head-got.2 in
         record { inside = i.inside; k_most = omega arith; n_most = omega arith; p-most = omega arith; m_most = omega arith }
 
-    module _ (v₂ : Verdict) (generators : List ℕ) (at₂ : ℕ)
-        (e₂ : read_by v₂ generators at₂ ≡ read_mapped (λ rows. store_rows 0 rows (replicate 32 0)) (read_generators bs at₁ z.k z.p z.m)) where
-      abbrev rows_read : Sizes → Read (List (List ℕ))
-      rows_read z = read_generators bs at₁ z.k z.p z.m
+    abbrev rows_read : Sizes → Read (List (List ℕ))
+    rows_read z = read_generators bs at₁ z.k z.p z.m
 
-      pub generators-stop : {x : Refusal} {o : ℕ} → v₂ ≡ Refused x o → refused_card (number_of x) o ≡ read_under rule bs
-      generators-stop q =
-          generators-refused rule bs head-got.1
-          (ap rows_read head-got.2 ∙ part-fault (λ rows. store_rows 0 rows (replicate 32 0)) (rows_read z) v₂ generators at₂ e₂ q)
+    abbrev stored : List (List ℕ) → List ℕ
+    stored rows = store_rows 0 rows (replicate 32 0)
 
-      module _ (a₂ : v₂ ≡ Accepted) where
-        rows-got : (rows : List (List ℕ)) × (rows_read z ≡ got rows at₂) × (store_rows 0 rows (replicate 32 0) ≡ generators)
-        rows-got = part-got (λ rows. store_rows 0 rows (replicate 32 0)) (rows_read z) v₂ generators at₂ e₂ a₂
+    pub generators-stop : {n o : ℕ} → fault n o ≡ read_mapped stored (rows_read z) → refused_card n o ≡ read_under rule bs
+    generators-stop e = generators-refused rule bs head-got.1 (ap rows_read head-got.2 ∙ map-faulted stored (rows_read z) (sym e))
 
-        rows-read : rows_read (sizes_of head-got.0) ≡ got rows-got.0 at₂
-        rows-read = ap rows_read head-got.2 ∙ rows-got.1
+    module _ {generators : List ℕ} {at₂ : ℕ} (e₂ : got generators at₂ ≡ read_mapped stored (rows_read z)) where
+      rows-got : (rows : List (List ℕ)) × (rows_read z ≡ got rows at₂) × (stored rows ≡ generators)
+      rows-got = map-got stored (rows_read z) (sym e₂)
 
-        pub generators_within : at₂ ≤ length bs
-        generators_within = generators-inside bs at₁ z.k z.p z.m rows-got.1
+      rows-read : rows_read (sizes_of head-got.0) ≡ got rows-got.0 at₂
+      rows-read = ap rows_read head-got.2 ∙ rows-got.1
 
-        -- the card before its checks
-        code_is : code_by z generators ≡ code_of head-got.0 rows-got.0
-        code_is = sym (ap (λ z. code_by z (store_rows 0 rows-got.0 (replicate 32 0))) head-got.2 ∙ ap (code_by z) rows-got.2)
+      pub generators_within : at₂ ≤ length bs
+      generators_within = generators-inside bs at₁ z.k z.p z.m rows-got.1
 
-        module _ (v₃ : Verdict) (tables : Tables) (at₃ : ℕ)
-            (e₃ : read_by v₃ tables at₃ ≡ read_mapped (tables_with 0 (replicate 4 0) (replicate check_words 0)) (read_streams bs (code_by z generators) z.k 0 at₂)) where
-          abbrev streams_read : Card → Read (List Stream)
-          streams_read c = read_streams bs c c.k 0 at₂
+      -- the card before its checks
+      code_is : code_by z generators ≡ code_of head-got.0 rows-got.0
+      code_is = sym (ap (λ z. code_by z (stored rows-got.0)) head-got.2 ∙ ap (code_by z) rows-got.2)
 
-          pub checks-stop : {x : Refusal} {o : ℕ} → v₃ ≡ Refused x o → refused_card (number_of x) o ≡ read_under rule bs
-          checks-stop q =
-              checks-refused rule bs head-got.1 rows-read
-              (ap streams_read (sym code_is) ∙ part-fault (tables_with 0 (replicate 4 0) (replicate check_words 0)) (streams_read (code_by z generators)) v₃ tables at₃ e₃ q)
+      abbrev streams_read : Card → Read (List Stream)
+      streams_read c = read_streams bs c c.k 0 at₂
 
-          module _ (a₃ : v₃ ≡ Accepted) where
-            streams-got : (streams : List Stream) × (streams_read (code_by z generators) ≡ got streams at₃) × (tables_with 0 (replicate 4 0) (replicate check_words 0) streams ≡ tables)
-            streams-got = part-got (tables_with 0 (replicate 4 0) (replicate check_words 0)) (streams_read (code_by z generators)) v₃ tables at₃ e₃ a₃
+      abbrev tables_of : List Stream → Tables
+      tables_of streams = tables_with 0 (replicate 4 0) (replicate check_words 0) streams
 
-            streams-read : streams_read (code_of head-got.0 rows-got.0) ≡ got streams-got.0 at₃
-            streams-read = ap streams_read (sym code_is) ∙ streams-got.1
+      pub checks-stop : {n o : ℕ} → fault n o ≡ read_mapped tables_of (streams_read (code_by z generators)) → refused_card n o ≡ read_under rule bs
+      checks-stop e =
+          checks-refused rule bs head-got.1 rows-read (ap streams_read (sym code_is) ∙ map-faulted tables_of (streams_read (code_by z generators)) (sym e))
 
-            pub after_stop : at₃ < length bs → refused_card 10 at₃ ≡ read_under rule bs
-            after_stop l = bytes_after rule bs head-got.1 rows-read streams-read l
+      module _ {tables : Tables} {at₃ : ℕ} (e₃ : got tables at₃ ≡ read_mapped tables_of (streams_read (code_by z generators))) where
+        streams-got : (streams : List Stream) × (streams_read (code_by z generators) ≡ got streams at₃) × (tables_of streams ≡ tables)
+        streams-got = map-got tables_of (streams_read (code_by z generators)) (sym e₃)
 
-            pub accepted-card : length bs ≤ at₃ →
-                record {
-                  outcome = accepted;
-                  card = record { number = z.number; k = z.k; p = z.p; m = z.m; generators = generators; counts = tables.counts; checks = tables.checks };
-                } ≡ read_under rule bs
-            accepted-card l =
-                ap (λ (t : Tables).
-                record {
-                  outcome = accepted;
-                  card = record { number = z.number; k = z.k; p = z.p; m = z.m; generators = generators; counts = t.counts; checks = t.checks };
-                }) (sym streams-got.2)
-                ∙ ap (λ (c : Card). record { outcome = accepted; card = with_checks c streams-got.0 }) code_is
-                ∙ whole-card rule bs head-got.1 rows-read streams-read l
+        streams-read : streams_read (code_of head-got.0 rows-got.0) ≡ got streams-got.0 at₃
+        streams-read = ap streams_read (sym code_is) ∙ streams-got.1
+
+        pub after_stop : at₃ < length bs → refused_card 10 at₃ ≡ read_under rule bs
+        after_stop l = bytes_after rule bs head-got.1 rows-read streams-read l
+
+        -- the card with its tables
+        abbrev with_tables : Tables → CardOutcome
+        with_tables t =
+            record {
+              outcome = accepted;
+              card = record { number = z.number; k = z.k; p = z.p; m = z.m; generators = generators; counts = t.counts; checks = t.checks };
+            }
+
+        pub accepted-card : length bs ≤ at₃ → with_tables tables ≡ read_under rule bs
+        accepted-card l =
+            ap with_tables (sym streams-got.2)
+            ∙ ap (λ (c : Card). record { outcome = accepted; card = with_checks c streams-got.0 }) code_is
+            ∙ whole-card rule bs head-got.1 rows-read streams-read l

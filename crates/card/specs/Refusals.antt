@@ -1,6 +1,6 @@
 -- The published number of each refusal: document 01, "Refused because of the input" and "Refused because of the state"; document 02, R-4, 18.
 -- Every definition of this project speaks of a refusal by its number; the program's enum is tied to it here and nowhere else. A check's failure
--- has the number of `orthogonal/specs/Judgements.antt`; `refusal_of` promises the refusal of the same number.
+-- has the number of `orthogonal/specs/Judgements.antt`; `From<Failure> for Refusal` promises the refusal of the same number.
 -- Assumes nothing.
 use Rattle.std.specs.Prelude.{ℕ}
 use Rattle.card.specs.declared.Refusal.{Refusal}

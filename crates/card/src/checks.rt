@@ -4,12 +4,11 @@ ghost use Rattle.code.specs.Limits.{check_words};
 ghost use Rattle.card.specs.Reading.{read_mapped, read_streams};
 ghost use Rattle.card.specs.Parts.{read_by, code_by, tables_with};
 
-use crate::fields::FieldRead;
-use crate::parts::{PartRead, Sizes};
-use crate::{Refusal, Verdict, fields};
+use crate::parts::Sizes;
+use crate::{Fault, Refusal, fields};
 use code::{CHECK_STRIDE, CHECK_WORDS, MOST_CHECKS};
 
-// The checks of every information stream, left at the first refusal, stored in the empty tables.
+// The checks of every information stream, left at the first refusal, stored in the empty tables; the offset after them.
 pub(crate) fn read_checks(
     bytes: &[u8],
     start: usize,
@@ -17,68 +16,68 @@ pub(crate) fn read_checks(
     generators: &[u32; 32],
     counts: &mut [u32; 4],
     checks: &mut [u32; CHECK_WORDS],
-) -> PartRead
+) -> Result<usize, Fault>
     requires start_in_bounds { (start ≤ length bytes.now) × ((sizes.k ≤ 4) × ((sizes.k + sizes.p ≤ 8) × ((sizes.p ≤ 7) × (sizes.m < 32)))) }
-    requires counts_value { (counts.old ≡ replicate 4 0) × (checks.old ≡ replicate check_words 0) }
-    ensures { read_by result.verdict (record { counts = counts.new; checks = checks.new }) result.at
+    requires tables_empty { (counts.old ≡ replicate 4 0) × (checks.old ≡ replicate check_words 0) }
+    ensures { read_by result (record { counts = counts.new; checks = checks.new })
         ≡ read_mapped (tables_with 0 (replicate 4 0) (replicate check_words 0))
         (read_streams bytes.now (code_by sizes generators.now) sizes.k 0 start) }
 {
-    let k = sizes.k;
-    let p = sizes.p;
-    let mut verdict = Verdict::Accepted;
+    let most_checks = MOST_CHECKS as u32;
     let mut at = start;
-    'card: for i in 0..k {
-        let count_read = fields::byte_field(
-            bytes,
-            at,
-            1,
-            MOST_CHECKS as u32,
-            Refusal::CheckCountOutOfRange,
-        );
-        let FieldRead::Value(count) = count_read else {
-            verdict = fields::verdict_of(count_read);
-            break 'card;
+    let mut outcome = Ok(());
+    'card: for i in 0..sizes.k {
+        let counted = fields::byte_field(bytes, at, 1, most_checks, Refusal::CheckCountOutOfRange);
+        let count = match counted {
+            Ok(count) => count,
+            Err(fault) => {
+                outcome = Err(fault);
+                break 'card;
+            }
         };
         counts[i] = count;
         at += 1;
         let mut touched = [0u32; 8];
         for q in 0..count as usize {
             let place = at;
-            let map_read = fields::byte_field(
+            let mapped = fields::byte_field(
                 bytes,
                 at,
                 0,
-                (1 << p) - 1,
+                (1 << sizes.p) - 1,
                 Refusal::MapBeyondStreams,
             );
-            let FieldRead::Value(map) = map_read else {
-                verdict = fields::verdict_of(map_read);
-                break 'card;
+            let mut rest = match mapped {
+                Ok(map) => map,
+                Err(fault) => {
+                    outcome = Err(fault);
+                    break 'card;
+                }
             };
             at += 1;
-            let mut rest = map;
             let mut masks = [0u32; 8];
-            for j in 0..p {
-                let mask_read = fields::standing_mask(bytes, at, sizes.m, rest % 2);
-                let FieldRead::Value(mask) = mask_read else {
-                    verdict = fields::verdict_of(mask_read);
-                    break 'card;
+            for j in 0..sizes.p {
+                let mask = match fields::standing_mask(bytes, at, sizes.m, rest % 2) {
+                    Ok(mask) => mask,
+                    Err(fault) => {
+                        outcome = Err(fault);
+                        break 'card;
+                    }
                 };
                 masks[j] = mask;
                 checks[i * CHECK_STRIDE + q * 8 + j] = mask;
                 at += (rest % 2) as usize * 4;
-                rest = rest / 2;
+                rest /= 2;
             }
-            let judgement = orthogonal::pass(generators, &masks, &mut touched, k, p, i);
-            if let Err(failure) = judgement {
-                verdict = Verdict::Refused {
+            let passed = orthogonal::pass(generators, &masks, &mut touched, sizes.k, sizes.p, i);
+            if let Err(failure) = passed {
+                outcome = Err(Fault {
                     refusal: Refusal::from(failure),
                     offset: place,
-                };
+                });
                 break 'card;
             }
         }
     }
-    PartRead { verdict, at }
+    outcome.and(Ok(at))
 }

@@ -66,13 +66,6 @@ pub enum CardRule {
     Present,
 }
 
-// What reading a card comes to.
-#[derive(Clone, Copy)]
-pub enum Verdict {
-    Accepted,
-    Refused { refusal: Refusal, offset: usize },
-}
-
 // Where a card is refused, and why: at a byte offset.
 #[derive(Clone, Copy, Debug, PartialEq, Eq)]
 pub struct Fault {
@@ -99,26 +92,16 @@ pub struct Opened<S> {
 pub fn read_card(rule: CardRule, bytes: &[u8]) -> Result<Card, Fault>
     ensures { CardPromise rule bytes.now result }
 {
-    let head = parts::read_head(rule, bytes);
-    if let Verdict::Refused { refusal, offset } = head.verdict {
-        return Err(Fault { refusal, offset });
-    }
-    let sizes = head.sizes;
+    let (sizes, at) = parts::read_head(rule, bytes)?;
     let mut generators = [0u32; 32];
-    let code = parts::read_generators(bytes, head.at, sizes, &mut generators);
-    if let Verdict::Refused { refusal, offset } = code.verdict {
-        return Err(Fault { refusal, offset });
-    }
+    let at = parts::read_generators(bytes, at, sizes, &mut generators)?;
     let mut counts = [0u32; 4];
     let mut checks = [0u32; CHECK_WORDS];
-    let whole = checks::read_checks(bytes, code.at, sizes, &generators, &mut counts, &mut checks);
-    if let Verdict::Refused { refusal, offset } = whole.verdict {
-        return Err(Fault { refusal, offset });
-    }
-    if whole.at < bytes.len() {
+    let at = checks::read_checks(bytes, at, sizes, &generators, &mut counts, &mut checks)?;
+    if at < bytes.len() {
         return Err(Fault {
             refusal: Refusal::BytesAfterChecks,
-            offset: whole.at,
+            offset: at,
         });
     }
     Ok(Card {

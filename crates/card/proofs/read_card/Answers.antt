@@ -1,54 +1,42 @@
 -- Each part's answer is the definition's (`WholeCard`), and what the definition accepts is what the promise says (`Acceptance`).
-use mathlib.Core.Path.{refl, ◌∙◌}
 use native.Mathlib.Omega.{arith}
+use Rattle.std.proofs.lemmas.Result.{err_from_is_err_and}
 use Rattle.card.proofs.WholeCard.{head-stop, head-ranges, generators-stop, generators_within, checks-stop, after_stop, accepted-card}
 use Rattle.card.proofs.Acceptance.{card-promise}
 use Rattle.card.proofs.read_card.Goals as goal
 
-pub returns-in-Refused : goal.returns-in-Refused
-returns-in-Refused c =
-    let told = c.in-Refused.is in
-    card-promise _ c.args.bytes.now _ (λ i. omega (arith, c.shared_slice_known-1.given i))
-    (head-stop _ _ _ _ _ c.read_head-head.ensures told)
+pub returns-in_err-sizes : goal.returns-in_err-sizes
+returns-in_err-sizes c =
+    let p = err_from_is_err_and c.from_residual.result c.from_residual.ensures.1 in
+    rw (p.1, p.2) (card-promise _ c.args.bytes.now _ (λ i. omega (arith, c.type_inv.bytes i)) (head-stop _ _ c.in_err-sizes.ensures))
 
-pub read_generators-code-requires : goal.read_generators-code-requires
-read_generators-code-requires c =
-    let r = head-ranges _ _ _ _ _ c.read_head-head.ensures c.in_default.is in
-    record { start_in_bounds = (r.inside, (r.k_most, (r.p-most, r.m_most))); generators_value = refl }
+pub read_generators-requires-clause-start_in_bounds : goal.read_generators-requires-clause-start_in_bounds
+read_generators-requires-clause-start_in_bounds c =
+    let r = head-ranges _ _ c.in_ok-sizes.ensures in
+    (r.inside, (r.k_most, (r.p-most, r.m_most)))
 
-pub returns-in-Refused-verdict : goal.returns-in-Refused-verdict
-returns-in-Refused-verdict c =
-    let told = c.in-Refused-verdict.is in
-    card-promise _ c.args.bytes.now _ (λ i. omega (arith, c.shared_slice_known-1.given i))
-    (generators-stop _ _ _ _ _ c.read_head-head.ensures c.in_default.is _ _ _ c.read_generators-code.ensures told)
+pub returns-in_err-at : goal.returns-in_err-at
+returns-in_err-at c =
+    let p = err_from_is_err_and c.from_residual-in_err-at.result c.from_residual-in_err-at.ensures.1 in
+    rw (p.1, p.2) (card-promise _ c.args.bytes.now _ (λ i. omega (arith, c.type_inv.bytes i)) (generators-stop _ _ c.in_ok-sizes.ensures c.in_err-at.ensures))
 
-pub read_checks-whole-requires : goal.read_checks-whole-requires
-read_checks-whole-requires c =
-    let first = c.read_head-head.ensures in
-    let r = head-ranges _ _ _ _ _ first c.in_default.is in
-    let inside = generators_within _ _ _ _ _ first c.in_default.is _ _ _ c.read_generators-code.ensures c.in_default-verdict.is in
-    record { start_in_bounds = (inside, (r.k_most, (r.n_most, (r.p-most, r.m_most)))); counts_value = (refl, refl) }
+pub read_checks-requires-clause-start_in_bounds : goal.read_checks-requires-clause-start_in_bounds
+read_checks-requires-clause-start_in_bounds c =
+    let r = head-ranges _ _ c.in_ok-sizes.ensures in
+    (generators_within _ _ c.in_ok-sizes.ensures c.in_ok-at.ensures, (r.k_most, (r.n_most, (r.p-most, r.m_most))))
 
-pub returns-in-Refused-verdict-2 : goal.returns-in-Refused-verdict-2
-returns-in-Refused-verdict-2 c =
-    let told = c.in-Refused-verdict-2.is in
-    let first = c.read_head-head.ensures in
-    let second = c.read_generators-code.ensures in
-    card-promise _ c.args.bytes.now _ (λ i. omega (arith, c.shared_slice_known-1.given i))
-    (checks-stop _ _ _ _ _ first c.in_default.is _ _ _ second c.in_default-verdict.is _ _ _ c.read_checks-whole.ensures told)
+pub returns-in_err-at-2 : goal.returns-in_err-at-2
+returns-in_err-at-2 c =
+    let p = err_from_is_err_and c.from_residual-in_err-at-2.result c.from_residual-in_err-at-2.ensures.1 in
+    rw (p.1, p.2)
+    (card-promise _ c.args.bytes.now _ (λ i. omega (arith, c.type_inv.bytes i)) (checks-stop _ _ c.in_ok-sizes.ensures c.in_ok-at.ensures c.in_err-at-2.ensures))
 
-pub returns-then-whole-bytes : goal.returns-then-whole-bytes
-returns-then-whole-bytes c =
-    let first = c.read_head-head.ensures in
-    let second = c.read_generators-code.ensures in
-    card-promise _ c.args.bytes.now _ (λ i. omega (arith, c.shared_slice_known-1.given i))
-    (after_stop _ _ _ _ _ first c.in_default.is _ _ _ second c.in_default-verdict.is _ _ _ c.read_checks-whole.ensures c.in_default-verdict-2.is
-    c.if-whole-bytes.true)
+pub returns-then-at-bytes : goal.returns-then-at-bytes
+returns-then-at-bytes c =
+    card-promise _ c.args.bytes.now _ (λ i. omega (arith, c.type_inv.bytes i))
+    (after_stop _ _ c.in_ok-sizes.ensures c.in_ok-at.ensures c.in_ok-at-2.ensures c.if-at-bytes.true)
 
 pub returns : goal.returns
 returns c =
-    let first = c.read_head-head.ensures in
-    let second = c.read_generators-code.ensures in
-    card-promise _ c.args.bytes.now _ (λ i. omega (arith, c.shared_slice_known-1.given i))
-    (accepted-card _ _ _ _ _ first c.in_default.is _ _ _ second c.in_default-verdict.is _ _ _ c.read_checks-whole.ensures c.in_default-verdict-2.is
-    c.if-whole-bytes.false)
+    card-promise _ c.args.bytes.now _ (λ i. omega (arith, c.type_inv.bytes i))
+    (accepted-card _ _ c.in_ok-sizes.ensures c.in_ok-at.ensures c.in_ok-at-2.ensures c.if-at-bytes.false)

@@ -7,6 +7,6 @@ pub returns-then-stands-eq1 : goal.returns-then-stands-eq1
 unfolding standing_mask
 returns-then-stands-eq1 c = rw (eq-eqb _ _ c.if-stands-eq1.true) c.mask_field.ensures
 
-pub returns : goal.returns
+pub returns-else-stands-eq1 : goal.returns-else-stands-eq1
 unfolding standing_mask
-returns c = simp (ne_eqb _ _ c.if-stands-eq1.false)
+returns-else-stands-eq1 c = simp (ne_eqb _ _ c.if-stands-eq1.false)

@@ -1,52 +1,35 @@
-use mathlib.Core.Path.{◌∙◌}
-use native.Mathlib.Omega.{arith}
-use Rattle.card.proofs.FieldValues.{has_value, has-fault, map_is, standing-inside}
-use Rattle.card.proofs.HeadStages.{refused-by, read_whole, few_bits}
-use Rattle.card.proofs.RestGenerators.{map-fault, rows-begin, row-begin, row_next, rows_next, rows_whole, row-stop}
+use mathlib.Core.Path.{refl, sym}
+use Rattle.std.proofs.lemmas.Result.{err_from_is_err_and}
+use Rattle.card.specs.Reading.{read_generators}
+use Rattle.card.proofs.RestGenerators.{rows-begin, row-begin, row_next, rows_next, rows_whole, row-stop}
 use Rattle.card.proofs.parts.read_generators.Goals as goal
+use Rattle.card.proofs.parts.read_generators.Goals.{else-rows-test, then-rows-test+then-loop-j-test+in-Err}
 
-pub overflow_mul-k : goal.overflow_mul-k
-overflow_mul-k c =
-    record { fits = (let q = few_bits c.args.sizes.k c.args.sizes.p (omega arith) (omega arith) in omega arith) }
-
-pub map_field-map_read-requires : goal.map_field-map_read-requires
-map_field-map_read-requires c = (omega arith, few_bits c.args.sizes.k c.args.sizes.p (omega arith) (omega arith))
-
-pub returns-in_default : goal.returns-in_default
-returns-in_default c =
-    let told = c.in_default.is in
-    let a = c.args in
-    refused-by _ _ c.verdict_of.ensures told ∙ map-fault a.bytes.now a.sizes a.start (has-fault c.map_field-map_read.ensures told)
-
-pub overflow_add-at : goal.overflow_add-at
-overflow_add-at c = let h = (map_is _ _ _ _ (has_value c.map_field-map_read.ensures c.in-Value.is)).inside in omega arith
+pub returns-in_err-rest : goal.returns-in_err-rest
+unfolding read_generators
+returns-in_err-rest c =
+    let p = err_from_is_err_and c.from_residual.result c.from_residual.ensures.1 in
+    rw (p.1, p.2, ← c.in_err-rest.ensures)
 
 pub rows-init : goal.rows-init
-rows-init c = rows-begin _ _ _ c.requires.generators_value (has_value c.map_field-map_read.ensures c.in-Value.is)
+rows-init c = record { unbroken = refl; place = rows-begin _ _ _ c.requires.generators_empty (sym c.in_ok-rest.ensures) }
 
 pub loop-j-init : goal.loop-j-init
-loop-j-init c = row-begin c.rows.invariant c.rows-test.true
-
-pub overflow_add-at-in-loop-j : goal.overflow_add-at-in-loop-j
-overflow_add-at-in-loop-j c =
-    let v = c.loop-j.invariant in
-    let mask = has_value c.standing_mask-mask_read.ensures c.in-Value-mask_read.is in
-    let h = standing-inside _ _ _ _ _ v.inside (omega arith) mask in
-    omega arith
+loop-j-init c = record { unbroken = c.rows.invariant.unbroken; place = row-begin c.rows.invariant.place c.rows-test.true }
 
 pub loop-j-preserved : goal.loop-j-preserved
 loop-j-preserved c =
-    row_next c.loop-j.invariant c.loop-j-test.true
-    (has_value c.standing_mask-mask_read.ensures c.in-Value-mask_read.is)
+    let v = c.loop-j.invariant in
+    record { unbroken = v.unbroken; place = row_next v.place c.loop-j-test.true (sym c.in-Ok.ensures) }
 
 pub rows-preserved : goal.rows-preserved
-rows-preserved c = rows_next c.loop-j.invariant c.rows-test.true c.loop-j-test.false
+rows-preserved c =
+    let v = c.loop-j.invariant in
+    record { unbroken = v.unbroken; place = rows_next v.place c.rows-test.true c.loop-j-test.false }
 
-pub returns-after-rows : goal.returns-after-rows
-returns-after-rows c = let v = c.rows.invariant in read_whole _ _ v.unbroken ∙ rows_whole v c.rows-test.false
-
-pub returns-in_default-mask_read : goal.returns-in_default-mask_read
-returns-in_default-mask_read c =
-    let told = c.in_default-mask_read.is in
-    refused-by _ _ c.verdict_of-verdict.ensures told
-    ∙ row-stop c.loop-j.invariant c.loop-j-test.true (has-fault c.standing_mask-mask_read.ensures told)
+pub returns : goal.returns
+returns c =
+    elim c.rows-test.branch [
+      | else-rows-test w ↦ rw (c.and.ensures, w.outcome-is, w.at-is, w.generators-is, c.rows.invariant.unbroken) (rows_whole c.rows.invariant.place w.rows-test.false)
+      | then-rows-test+then-loop-j-test+in-Err w ↦ rw (c.and.ensures, w.outcome-is) (row-stop w.loop-j.invariant.place w.loop-j-test.true (sym w.in-Err.ensures))
+    ]

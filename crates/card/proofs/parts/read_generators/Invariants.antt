@@ -1,5 +1,5 @@
--- The rest of the generators from where the loops stand gives the whole answer (`RestGenerators`).
-use Prim.Native.Nat.{◌-◌}
+-- Nothing is refused so far, and the rest of the generators from where the loops stand gives the whole answer (`RestGenerators`).
+use Rattle.std.specs.Prelude.{◌≡◌, Ok}
 use lib.ListN.{replicate}
 use Rattle.card.specs.Fields.{store_rows}
 use Rattle.card.specs.Reading.{read_mapped, read_generators}
@@ -8,14 +8,14 @@ use Rattle.card.proofs.parts.read_generators.Given as goal
 
 abbrev pub invariant-loop-j : goal.invariant-loop-j
 invariant-loop-j l =
-    AtRow l.bytes l.sizes (read_mapped (λ rows. store_rows 0 rows (replicate 32 0)) (read_generators l.bytes l.start l.sizes.k l.sizes.p l.sizes.m)) l.i l.verdict l.generators l.rest l.at l.j
-
-abbrev pub decreases-loop-j : goal.decreases-loop-j
-decreases-loop-j l = l.sizes.p - l.j
+    record {
+      unbroken : l.outcome ≡ Ok tt;
+      place : AtRow l.bytes l.sizes (read_mapped (λ rows. store_rows 0 rows (replicate 32 0)) (read_generators l.bytes l.start l.sizes.k l.sizes.p l.sizes.m)) l.i l.generators l.rest l.at l.j;
+    }
 
 abbrev pub invariant-rows : goal.invariant-rows
 invariant-rows l =
-    AtRows l.bytes l.sizes (read_mapped (λ rows. store_rows 0 rows (replicate 32 0)) (read_generators l.bytes l.start l.sizes.k l.sizes.p l.sizes.m)) l.verdict l.generators l.rest l.at l.i
-
-abbrev pub decreases-rows : goal.decreases-rows
-decreases-rows l = l.sizes.k - l.i
+    record {
+      unbroken : l.outcome ≡ Ok tt;
+      place : AtRows l.bytes l.sizes (read_mapped (λ rows. store_rows 0 rows (replicate 32 0)) (read_generators l.bytes l.start l.sizes.k l.sizes.p l.sizes.m)) l.generators l.rest l.at l.i;
+    }

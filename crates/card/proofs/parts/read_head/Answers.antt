@@ -1,29 +1,50 @@
--- Byte 0 and the card number; the rest of the head is read where both have values.
-use mathlib.Core.Path.{◌≡◌, ◌∙◌}
-use Rattle.card.specs.Reading.{byte_field}
-use Rattle.card.specs.Reading.Field.{value}
-use Rattle.card.proofs.FieldValues.{has_value, has-fault}
-use Rattle.card.proofs.HeadStages.{refused-by, map-faulty, number-faulty}
+-- Field by field: each that has a value is put in, and the first fault is handed on.
+use mathlib.Core.Path.{sym}
+use native.Mathlib.Omega.{arith}
+use Rattle.std.proofs.lemmas.Result.{err_from_is_err_and}
+use Rattle.card.specs.Reading.{read_head}
+use Rattle.card.proofs.FieldValues.{byte-is, k-is, n-is}
 use Rattle.card.proofs.parts.read_head.Goals as goal
-use Rattle.card.proofs.parts.read_head.Goals.{In-Value}
 
-pub returns-in_default : goal.returns-in_default
-returns-in_default c =
-    refused-by c.fault_head.result.sizes c.fault_head.result.at c.fault_head.ensures c.in_default.is
-    ∙ map-faulty _ _ (has-fault c.byte_field-map_read.ensures c.in_default.is)
+pub returns-in_err-map : goal.returns-in_err-map
+unfolding read_head
+returns-in_err-map c =
+    let p = err_from_is_err_and c.from_residual.result c.from_residual.ensures.1 in
+    rw (p.1, p.2, ← c.in_err-map.ensures)
 
--- byte 0 is read
-map-value : (c : In-Value) → byte_field c.args.bytes.now 0 0 3 5 ≡ value c.in-Value.map
-map-value c = has_value c.byte_field-map_read.ensures c.in-Value.is
+pub returns-in_err-number : goal.returns-in_err-number
+unfolding read_head
+returns-in_err-number c =
+    let p = err_from_is_err_and c.from_residual-in_err-number.result c.from_residual-in_err-number.ensures.1 in
+    rw (p.1, p.2, ← c.in_ok-map.ensures, ← c.in_err-number.ensures)
 
-pub returns-in_default-number_read : goal.returns-in_default-number_read
-returns-in_default-number_read c =
-    refused-by c.fault_head-in_default-number_read.result.sizes c.fault_head-in_default-number_read.result.at c.fault_head-in_default-number_read.ensures c.in_default-number_read.is
-    ∙ number-faulty _ _ (map-value (goal.at.returns-in_default-number_read c).In-Value) (has-fault c.byte_field-number_read.ensures c.in_default-number_read.is)
+pub returns-in_err-k : goal.returns-in_err-k
+unfolding read_head
+returns-in_err-k c =
+    let p = err_from_is_err_and c.from_residual-in_err-k.result c.from_residual-in_err-k.ensures.1 in
+    rw (p.1, p.2, ← c.in_ok-map.ensures, ← c.in_ok-number.ensures, ← c.in_err-k.ensures)
 
-pub read_sizes-requires : goal.read_sizes-requires
-read_sizes-requires c =
-    record {
-      map_read = map-value (goal.at.read_sizes-requires c).In-Value;
-      number_read = has_value c.byte_field-number_read.ensures c.in-Value-number_read.is;
-    }
+pub n_field-requires : goal.n_field-requires
+n_field-requires c = (k-is _ _ _ _ (sym c.in_ok-k.ensures)).1
+
+pub returns-in_err-n : goal.returns-in_err-n
+unfolding read_head
+returns-in_err-n c =
+    let p = err_from_is_err_and c.from_residual-in_err-n.result c.from_residual-in_err-n.ensures.1 in
+    rw (p.1, p.2, ← c.in_ok-map.ensures, ← c.in_ok-number.ensures, ← c.in_ok-k.ensures, ← c.in_err-n.ensures)
+
+pub returns-in_err-m : goal.returns-in_err-m
+unfolding read_head
+returns-in_err-m c =
+    let p = err_from_is_err_and c.from_residual-in_err-m.result c.from_residual-in_err-m.ensures.1 in
+    rw (p.1, p.2, ← c.in_ok-map.ensures, ← c.in_ok-number.ensures, ← c.in_ok-k.ensures, ← c.in_ok-n.ensures, ← c.in_err-m.ensures)
+
+pub overflow_cast-sizes : goal.overflow_cast-sizes
+overflow_cast-sizes c = let number = (byte-is _ _ _ _ _ _ (sym c.in_ok-number.ensures)).most in record { fits = omega arith }
+
+pub overflow_sub-sizes : goal.overflow_sub-sizes
+overflow_sub-sizes c = let n = (n-is _ _ _ _ _ _ (sym c.in_ok-n.ensures)).0 in omega arith
+
+pub returns : goal.returns
+unfolding read_head
+returns c = rw (← c.in_ok-map.ensures, ← c.in_ok-number.ensures, ← c.in_ok-k.ensures, ← c.in_ok-n.ensures, ← c.in_ok-m.ensures)
