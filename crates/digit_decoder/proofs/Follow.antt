@@ -23,16 +23,16 @@ use Rattle.receiving.specs.Receive.{place_of, open_of}
 use Rattle.receiving.specs.Calls.{Call, taken_frames, taken_erased, answers, answers_by}
 use Rattle.receiving.proofs.Follow.{Follows, agree}
 use Rattle.receiving.proofs.Turns.{InTurn, in-turn}
+use Rattle.receiving.proofs.Turns as turn
 use Rattle.receiving.proofs.ByRule.{follows-rule}
 use Rattle.code.proofs.ErasedDigits.{ErasedAt, erased-start, erased-next, erased-moved}
 use Rattle.vote.proofs.WhoVotes.{voters-are}
 use Rattle.decoder.specs.Receive.{first_circuit}
 use Rattle.decoder.proofs.Follow as first
 use Rattle.digit_decoder.specs.Held.{nothing_held, held_with_frame, decided_in, next_held}
-use Rattle.digit_decoder.specs.Receive.{with_frame, frame_of, handing_of, taken_of, second_circuit}
+use Rattle.digit_decoder.specs.Receive.{frame_of, second_holding, second_circuit}
 use Rattle.digit_decoder.specs.Claims.{Claims}
 use Rattle.digit_decoder.specs.declared.Held.{Held}
-use Rattle.digit_decoder.specs.declared.Session.{Session}
 use Rattle.digit_decoder.proofs.Step.{DecidedAt, decided-start, decided-length, decide-is, decided-next}
 
 -- what is held of the frames of times u to t - 1, where that of time u is decided next: their digits and which of those are erased, and the digits decided
@@ -42,13 +42,7 @@ pub record HeldAt (c : Card) (frames erased : List ℕ) (u t : ℕ) (h : Held) :
   pub decided-long : c.k ≤ length h.decided
   pub digits_are : DigitsAt (c.k + c.p) frames u t h.digits
   pub decided-are : DecidedAt c (decided_digits c frames erased u) u h.decided
-  pub erased-are : ErasedAt (c.k + c.p) erased u t h.erased h.any
-
--- a session that took t frames
-pub record At (c : Card) (frames erased : List ℕ) (u t : ℕ) (s : Session) : Type 0 where
-  pub card_is : s.card ≡ c
-  pub received_is : s.received ≡ t
-  pub held-is : HeldAt c frames erased u t s.held
+  pub erased-are : ErasedAt (c.k + c.p) erased u t h.erased.registers h.erased.any
 
 module _ (c : Card) (G : Guarantees c) (frames erased : List ℕ) where
   -- ---- what is held, with a frame more, and for the next one
@@ -61,7 +55,7 @@ module _ (c : Card) (G : Guarantees c) (frames erased : List ℕ) where
         decided-long = H.decided-long;
         digits_are = registers.digits-next (c.k + c.p) frames u t h.digits H.digits_long H.digits_are place f at lp ef;
         decided-are = H.decided-are;
-        erased-are = erased-next (c.k + c.p) erased u t h.erased h.any H.erased-are place e at lp ee;
+        erased-are = erased-next (c.k + c.p) erased u t h.erased.registers h.erased.any H.erased-are place e at lp ee;
       }
 
   decides : (u : ℕ) (h : Held) → HeldAt c frames erased u (suc (u + c.m)) h
@@ -69,7 +63,7 @@ module _ (c : Card) (G : Guarantees c) (frames erased : List ℕ) where
   unfolding decided_in
   decides u h H =
       decide-is c G frames (decided_digits c frames erased u) (u + c.m) u refl h.digits h.decided H.digits_are H.decided-are erased _
-      (voters-are c G erased u h.erased h.any H.erased-are)
+      (voters-are c G erased u h.erased.registers h.erased.any H.erased-are)
 
   moves : (u t f : ℕ) (h : Held) → HeldAt c frames erased u t h → f ≡ decide_digits c frames erased (decided_digits c frames erased u) u
       → HeldAt c frames erased (suc u) t (next_held h f)
@@ -80,10 +74,10 @@ module _ (c : Card) (G : Guarantees c) (frames erased : List ℕ) where
         decided-long = omega (arith, decided-length h.decided f, H.decided-long);
         digits_are = registers.digits-moved (c.k + c.p) frames u t h.digits H.digits_long H.digits_are;
         decided-are = decided-next c G frames erased u f h.decided H.decided-long ef H.decided-are;
-        erased-are = erased-moved (c.k + c.p) erased u t h.erased h.any H.erased-are;
+        erased-are = erased-moved (c.k + c.p) erased u t h.erased.registers h.erased.any H.erased-are;
       }
 
-  -- ---- the session before the frame of time t, and with it
+  -- ---- what is held before the frame of time t, and with it
   handed-length : length (decoded_by_digits c frames erased) ≡ length frames - c.m
   unfolding decoded_by_digits
   handed-length = digits-length c frames erased (length frames - c.m)
@@ -93,58 +87,25 @@ module _ (c : Card) (G : Guarantees c) (frames erased : List ℕ) where
   unfolding decoded_by_digits
   handed-at u l = digits-at c frames erased (length frames - c.m) u l
 
-  abbrev Before : ℕ → Session → Type 0
-  Before t s = At c frames erased (t - c.m) t s
+  abbrev Before : ℕ → Held → Type 0
+  Before t h = HeldAt c frames erased (t - c.m) t h
 
-  abbrev With : ℕ → Session → Type 0
-  With t s = At c frames erased (t - c.m) (suc t) s
+  abbrev With : ℕ → Held → Type 0
+  With t h = HeldAt c frames erased (t - c.m) (suc t) h
 
-  comes-in : (t f e : ℕ) (s : Session) → Before t s → f ≡ get_or frames t 0 → e ≡ get_or erased t 0 → With t (with_frame s f e)
-  unfolding with_frame
-  comes-in t f e s B ef ee =
-      record {
-        card_is = B.card_is;
-        received_is = omega (arith, B.received_is);
-        held-is = rw (B.card_is, B.received_is)
-            (put (t - c.m) t (place_of t c.m) f e s.held B.held-is (omega arith) (omega (arith, G.m_most)) ef ee);
-      }
+  waits : (t : ℕ) (h : Held) → t < c.m → With t h → Before (suc t) h
+  waits t h l W = let v : t - c.m ≡ suc t - c.m = omega arith in rw v at W
 
-  waits : (t : ℕ) (s : Session) → t < c.m → With t s → Before (suc t) s
-  waits t s l W = let v : t - c.m ≡ suc t - c.m = omega arith in rw v at W
-
-  hands : (t : ℕ) (s : Session) → c.m ≤ t → t < length frames → With t s
-      → ((handing_of s).answer ≡ frame (get_or (decoded_by_digits c frames erased) (t - c.m) 0)) × Before (suc t) (handing_of s).session
-  unfolding handing_of frame_of
-  hands t s l ln W =
+  hands : (t : ℕ) (h : Held) → c.m ≤ t → t < length frames → With t h
+      → (second_holding.handed_out c h ≡ get_or (decoded_by_digits c frames erased) (t - c.m) 0) × Before (suc t) (second_holding.moved_on c h)
+  unfolding frame_of
+  hands t h l ln W =
       let u = t - c.m in
       let v : suc u ≡ suc t - c.m = omega arith in
       let w : u + c.m ≡ t = omega arith in
-      let d = decides u s.held (rw w W.held-is) in (
-        rw (W.card_is, sizes-are c G) (ap frame (d ∙ sym (handed-at u (omega arith)))),
-        record {
-          card_is = W.card_is;
-          received_is = W.received_is;
-          held-is = rw (sym v, W.card_is, sizes-are c G) (moves u (suc t) _ s.held W.held-is d);
-        },
-      )
-
-  turns : InTurn second_circuit decoded_by_digits c frames erased
-  turns =
-      record {
-        Before = Before;
-        With = With;
-        with-frame = with_frame;
-        hand = handing_of;
-        takes = λ s f e. unfold taken_of in refl;
-        card_is = λ t s B. B.card_is;
-        received_is = λ t s B. B.received_is;
-        comes-in = comes-in;
-        waits = waits;
-        hands = hands;
-      }
-
-  pub follows : Follows second_circuit c frames erased (answers_by decoded_by_digits c frames erased)
-  follows = in-turn second_circuit decoded_by_digits c frames erased handed-length turns
+      let d : frame_of c h ≡ decide_digits c frames erased (decided_digits c frames erased u) u =
+      ap (decided_in c.generators c.counts c.checks h) (sizes-are c G) ∙ decides u h (rw w W) in
+      (d ∙ sym (handed-at u (omega arith)), rw v at (moves u (suc t) (frame_of c h) h W d))
 
   -- before the first frame no digit is held
   nothing : (u : ℕ) → u ≡ 0 → HeldAt c frames erased u 0 nothing_held
@@ -157,9 +118,23 @@ module _ (c : Card) (G : Guarantees c) (frames erased : List ℕ) where
         erased-are = erased-start (c.k + c.p) erased G.n_most u;
       }
 
-  pub start : follows.After 0 (open_of second_circuit c)
-  unfolding open_of follows turns in-turn
-  start = record { card_is = refl; received_is = refl; held-is = nothing (0 - c.m) (omega arith) }
+  turns : InTurn second_holding decoded_by_digits c frames erased
+  turns =
+      record {
+        Before = Before;
+        With = With;
+        start = nothing (0 - c.m) (omega arith);
+        comes-in = λ t f e h B ef ee. put (t - c.m) t (place_of t c.m) f e h B (omega arith) (omega (arith, G.m_most)) ef ee;
+        waits = waits;
+        hands = hands;
+      }
+
+  pub follows : Follows second_circuit c frames erased (answers_by decoded_by_digits c frames erased)
+  follows = in-turn second_holding decoded_by_digits c frames erased handed-length turns
+
+  pub starts : follows.After 0 (open_of second_circuit c)
+  unfolding follows
+  starts = turn.starts second_holding decoded_by_digits c frames erased handed-length turns
 
 -- ---- what holds of an opened session
 same : (c : Card) → Guarantees c → (frames erased : List ℕ) → answers_by decoded_by_digits c frames erased ≡ answers_by decoded c frames erased
@@ -172,13 +147,13 @@ agreed c G calls =
     let frames = taken_frames second_circuit (open_of second_circuit c) calls in
     let erased = taken_erased second_circuit (open_of second_circuit c) calls in
     agree second_circuit first_circuit c G frames erased (answers_by decoded_by_digits c frames erased) (answers_by decoded c frames erased) (same c G frames erased)
-    (follows c G frames erased) (first.follows c G frames erased) calls 0 (open_of second_circuit c) (open_of first_circuit c) (start c G frames erased)
-    (first.start c G frames erased) refl refl
+    (follows c G frames erased) (first.follows c G frames erased) calls 0 (open_of second_circuit c) (open_of first_circuit c) (starts c G frames erased)
+    (first.starts c G frames erased) refl refl
 
 pub claims-of : (c : Card) → Guarantees c → Claims c (open_of second_circuit c)
 claims-of c G =
     record {
-      by_rule = follows-rule second_circuit decoded_by_digits c G (open_of second_circuit c) (handed-length c G) (follows c G) (start c G) Correctable
+      by_rule = follows-rule second_circuit decoded_by_digits c G (open_of second_circuit c) (handed-length c G) (follows c G) (starts c G) Correctable
           (λ info frames erased small whole few. circuits-agree c G frames erased ∙ decoded-as-sent c G info frames erased small whole few);
       answers_agree = λ calls. let h = agreed c G calls in cc;
     }

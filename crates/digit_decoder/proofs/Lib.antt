@@ -1,5 +1,4 @@
 pub mod Loops
 pub mod Step
-pub mod Composed
 pub mod Follow
 pub mod Example

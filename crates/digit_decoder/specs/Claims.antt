@@ -9,10 +9,11 @@ use Rattle.receiving.specs.Calls.{Call, answers}
 use Rattle.receiving.specs.Claims.{ByRule}
 use Rattle.receiving.specs.Receive.{open_of}
 use Rattle.decoder.specs.Receive.{first_circuit}
+use Rattle.receiving.specs.declared.Session.{Session}
 use Rattle.digit_decoder.specs.Receive.{second_circuit}
-use Rattle.digit_decoder.specs.declared.Session.{Session}
+use Rattle.digit_decoder.specs.declared.Held.{Held}
 
-pub record Claims (c : Card) (s : Session) : Type 0 where
+pub record Claims (c : Card) (s : Session Held) : Type 0 where
   -- the second rule and the third term
   pub by_rule : ByRule second_circuit decoded_by_digits Correctable c s
   -- call by call the answers of the first circuit's session, "past the correctable number too"

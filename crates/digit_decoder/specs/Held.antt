@@ -4,20 +4,17 @@
 -- Digit a of received register s is the digit of stream s at u + a, where the frame of time u is decided next; digit 32 - b of decided register i is
 -- information digit i at u - b.
 -- Assumes nothing.
-use Rattle.std.specs.Prelude.{ℕ, ◌+◌, ◌-◌, ◌*◌, ◌/◌, ◌^◌, min, cond, List, ◌++◌, ltb, length, get_or, drop, replicate}
+use Rattle.std.specs.Prelude.{ℕ, ◌+◌, ◌-◌, ◌*◌, ◌/◌, ◌^◌, cond, List, ◌++◌, ltb, length, get_or, drop, replicate}
 use Rattle.std.specs.Int.Bits.{bit_xor}
 use Rattle.std.specs.Int.Count.{ones}
 use Rattle.bits.specs.Sums.{xor_below, up_to}
 use Rattle.bits.specs.Digits.{bit, from_digits, shift_up}
 use Rattle.code.specs.Registers.{generator_mask, with_digits, moved_on}
 use Rattle.code.specs.declared.Sizes.{Sizes}
-use Rattle.receiving.specs.Answers.{Given, waiting, frame, refused, answer_of}
-use Rattle.receiving.specs.Readings.{Yield, yields, refuses}
 use Rattle.code.specs.ErasedDigits.{any_with, erased_with, erased_moved}
 use Rattle.vote.specs.Voters.{voters_by}
 use Rattle.vote.specs.Voting.{stream_ones_by}
 use Rattle.digit_decoder.specs.declared.Held.{Held}
-use Rattle.digit_decoder.specs.declared.Settled.{Settled}
 
 -- ---- the sums that are voted on
 
@@ -66,7 +63,7 @@ with_decided d f = up_to (length d) (λ i. bit_xor (get_or d i 0 / 2) (shift_up 
 
 -- before the first frame
 abbrev pub nothing_held : Held
-nothing_held = record { digits = replicate 8 0; decided = replicate 4 0; erased = replicate 8 0; any = 0 }
+nothing_held = record { digits = replicate 8 0; decided = replicate 4 0; erased = record { registers = replicate 8 0; any = 0 } }
 
 -- with the frame f, of which the digits e are erased, put in at place a, and nothing decided yet
 unfoldable pub held_with_frame : Held → ℕ → ℕ → ℕ → Held
@@ -74,14 +71,13 @@ held_with_frame h a f e =
     record {
       digits = with_digits h.digits f a;
       decided = h.decided;
-      erased = erased_with h.erased h.any e a;
-      any = any_with h.any e a;
+      erased = record { registers = erased_with h.erased.registers h.erased.any e a; any = any_with h.erased.any e a };
     }
 
 -- the frame that is decided next, as it is decided
 unfoldable pub decided_in : List ℕ → List ℕ → List ℕ → Held → Sizes → ℕ
 decided_in g counts checks h z =
-    decide_frame_by g checks (voters_by g counts checks h.erased h.any z.k z.p) h.digits h.decided z.k z.p
+    decide_frame_by g checks (voters_by g counts checks h.erased.registers h.erased.any z.k z.p) h.digits h.decided z.k z.p
 
 -- with the decided frame f in place of what was received, for the next frame
 unfoldable pub next_held : Held → ℕ → Held
@@ -89,33 +85,5 @@ next_held h f =
     record {
       digits = moved_on h.digits;
       decided = with_decided h.decided f;
-      erased = erased_moved h.erased h.any;
-      any = h.any / 2;
+      erased = record { registers = erased_moved h.erased.registers h.erased.any; any = h.erased.any / 2 };
     }
-
--- ---- a frame's way
-
--- what a frame comes to: the answer, what is held then, and how many frames were taken
-pub record Step : Type 0 where
-  pub answer : Given
-  pub held : Held
-  pub received : ℕ
-
-abbrev pub step_of : Settled → Step
-step_of r = record { answer = answer_of r.answer; held = r.held; received = r.received }
-
--- the frame m before the last one received, handed out
-unfoldable pub handed_by : List ℕ → List ℕ → List ℕ → Held → Sizes → ℕ → Step
-handed_by g counts checks h z received =
-    record {
-      answer = frame (decided_in g counts checks h z);
-      held = next_held h (decided_in g counts checks h z);
-      received = received;
-    }
-
--- a frame, or its refusal, after so many frames taken before
-unfoldable pub settled_by : List ℕ → List ℕ → List ℕ → Held → Sizes → ℕ → Yield → Step
-settled_by g counts checks h z received (yields f e) =
-    let with = held_with_frame h (min received z.m) f e in
-    cond (ltb received z.m) (record { answer = waiting; held = with; received = received + 1 }) (handed_by g counts checks with z (received + 1))
-settled_by g counts checks h z received (refuses r) = record { answer = refused r; held = h; received = received }

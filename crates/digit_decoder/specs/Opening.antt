@@ -1,17 +1,13 @@
--- What the calls of a session promise, in the published numbers: what opening comes to, and what a call hands back.
+-- What opening a session promises, in the published numbers.
 -- Assumes nothing.
 use Rattle.std.specs.Prelude.{ℕ, List}
 use Rattle.card.specs.Outcome.{outcome_of}
-use Rattle.receiving.specs.Answers.{answer_of, Reply}
+use Rattle.card.specs.declared.Opened.{Opened}
 use Rattle.receiving.specs.Opening.{Opens}
+use Rattle.receiving.specs.declared.Session.{Session}
 use Rattle.digit_decoder.specs.Claims.{Claims}
 use Rattle.digit_decoder.specs.Receive.{second_circuit}
-use Rattle.digit_decoder.specs.declared.Opened.{Opened}
-use Rattle.digit_decoder.specs.declared.Received.{Received}
-use Rattle.digit_decoder.specs.declared.Session.{Session}
+use Rattle.digit_decoder.specs.declared.Held.{Held}
 
-abbrev pub OpenPromise : List ℕ → Opened → Type 0
+abbrev pub OpenPromise : List ℕ → Opened (Session Held) → Type 0
 OpenPromise bytes r = Opens second_circuit Claims bytes (outcome_of r.verdict) r.session
-
-abbrev pub received_of : Received → Reply Session
-received_of r = record { answer = answer_of r.answer; session = r.session }

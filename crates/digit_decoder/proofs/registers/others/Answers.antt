@@ -1,5 +1,5 @@
 use Prim.Native.Nat.{ℕ, ◌*◌}
-use mathlib.Core.Path.{refl, ap, ap₂, ◌∙◌}
+use mathlib.Core.Path.{refl, ap, ◌∙◌}
 use native.Mathlib.Omega.{arith}
 use lib.ListN.{get_or, replicate}
 use lib.Bits.{bit_xor}
@@ -12,29 +12,20 @@ use Rattle.digit_decoder.proofs.registers.others.Goals as goal
 
 pub loop-j-init : goal.loop-j-init
 unfolding up_to
-loop-j-init c = (omega arith, refl)
-
-pub word-requires : goal.word-requires
-word-requires c = tt
-
-pub generator-requires : goal.generator-requires
-generator-requires c = tt
+loop-j-init c = refl
 
 pub overflow_mul-next : goal.overflow_mul-next
 overflow_mul-next c = record { fits = mask-times-lt 32 c.generator.result c.args.own (omega arith) (omega arith) }
 
 pub loop-j-preserved : goal.loop-j-preserved
 loop-j-preserved c =
-    let l = c.loop-j in
-    let a = c.args in (
-      omega arith,
-      part_step (λ b. bit_xor (get_or a.sums.now b 0) (generator_mask a.generators.now a.i b * a.own)) (replicate 8 0) l.j l.next _ (omega arith) l.invariant.1
-          (ap₂ bit_xor c.word.ensures (ap (λ (m : ℕ). m * a.own) c.generator.ensures)),
-    )
+    let a = c.args in
+    part_step _ (replicate 8 0) _ _ _ (omega arith) c.loop-j.invariant
+    (ap (λ (m : ℕ). bit_xor (get_or a.sums.now c.loop-j.j 0) (m * a.own)) c.generator.ensures)
 
 pub returns : goal.returns
 unfolding others_by
 returns c =
     let a = c.args in
-    c.loop-j.invariant.1
-    ∙ part_end (λ b. bit_xor (get_or a.sums.now b 0) (generator_mask a.generators.now a.i b * a.own)) (replicate 8 0) c.loop-j.invariant.0 c.loop-j-test.false
+    c.loop-j.invariant
+    ∙ part_end (λ b. bit_xor (get_or a.sums.now b 0) (generator_mask a.generators.now a.i b * a.own)) (replicate 8 0) c.loop-j.auto.j-end c.loop-j-test.false

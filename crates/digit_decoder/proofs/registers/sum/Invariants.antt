@@ -1,5 +1,4 @@
 -- The loop has added up the shares of the information streams that it passed.
-use Prim.Native.Nat.{◌-◌, ◌≤◌}
 use mathlib.Core.Path.{◌≡◌}
 use lib.ListN.{get_or}
 use Rattle.bits.specs.Sums.{xor_below}
@@ -9,7 +8,4 @@ use Rattle.digit_decoder.proofs.registers.sum.Given as goal
 
 abbrev pub invariant-loop-s : goal.invariant-loop-s
 invariant-loop-s l =
-    (l.s ≤ l.k) × (l.sum ≡ xor_below l.s (λ b. share_by (generator_mask l.generators b l.j) (get_or l.received b 0) (get_or l.decided b 0)))
-
-abbrev pub decreases-loop-s : goal.decreases-loop-s
-decreases-loop-s l = l.k - l.s
+    l.sum ≡ xor_below l.s (λ b. share_by (generator_mask l.generators b l.j) (get_or l.received b 0) (get_or l.decided b 0))

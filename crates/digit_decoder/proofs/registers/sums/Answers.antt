@@ -8,22 +8,14 @@ use Rattle.digit_decoder.proofs.registers.sums.Goals as goal
 
 pub loop-j-init : goal.loop-j-init
 unfolding up_to
-loop-j-init c = (omega arith, refl)
-
-pub sum-requires : goal.sum-requires
-sum-requires c = (omega arith, omega arith)
+loop-j-init c = refl
 
 pub loop-j-preserved : goal.loop-j-preserved
-loop-j-preserved c =
-    let l = c.loop-j in
-    let a = c.args in (
-      omega arith,
-      part_step (sum_by a.generators.now a.received.now a.decided.now a.k) (replicate 8 0) l.j l.next _ (omega arith) l.invariant.1 c.sum.ensures,
-    )
+loop-j-preserved c = part_step _ (replicate 8 0) _ _ _ (omega arith) c.loop-j.invariant c.sum.ensures
 
 pub returns : goal.returns
 unfolding sums_by
 returns c =
     let a = c.args in
-    c.loop-j.invariant.1
-    ∙ part_end (sum_by a.generators.now a.received.now a.decided.now a.k) (replicate 8 0) c.loop-j.invariant.0 c.loop-j-test.false
+    c.loop-j.invariant
+    ∙ part_end (sum_by a.generators.now a.received.now a.decided.now a.k) (replicate 8 0) c.loop-j.auto.j-end c.loop-j-test.false
