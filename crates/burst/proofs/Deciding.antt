@@ -9,7 +9,7 @@ use native.Mathlib.Nat.{mod-eq_of_lt, add-mod-mod, mod-lt}
 use native.Mathlib.Omega.{arith}
 use lib.ListN.{length, get_or}
 use lib.Bits.{bit_xor, xor_lt}
-use lib.Pow.{pow_pos}
+use lib.Pow.{pow_pos, pow_mono}
 use borrow.Author.Tests.{lt-ltb, le-ltb, le-leb, lt-leb}
 use Rattle.bits.specs.Sums.{sum_below, grown}
 use Rattle.bits.specs.Digits.{bit}
@@ -32,7 +32,9 @@ use Rattle.vote.proofs.Voting.{decide-lt, decide-all-lt, decide-wider, decide-al
 use Rattle.vote.proofs.WhoVotes.{all-decide}
 use Rattle.majority.proofs.Plain.{decided-length, decided-at}
 use Rattle.majority.proofs.Feedback.{cleared-fed}
-use Rattle.burst.specs.Registers.{Registers, registers, HasSums, taken_out, Corrected, NoneFrom, corrected_by}
+use Rattle.burst.specs.Sums.{HasSums}
+use Rattle.burst.specs.Registers.{taken_out, Corrected, NoneFrom, corrected_by}
+use Rattle.burst.specs.declared.registers.Registers.{Registers}
 use Rattle.burst.specs.Held.{syndrome_held, Before, With}
 use Rattle.burst.proofs.Following.{sums-bit}
 
@@ -43,6 +45,9 @@ decided-small words checks syndromes k p e = rw e (decide-lt _ _ checks syndrome
 -- the errors decided by all checks have a digit for each stream
 pub all-lt : (counts checks syndromes : List ℕ) (k p : ℕ) → k ≤ 4 → decide_by_all counts checks syndromes k p < 2 ^ k
 all-lt counts checks syndromes k p h = let e : min k 4 ≡ k = omega arith in rw e at (decide-all-lt counts checks syndromes k p)
+
+pub all-small : (counts checks syndromes : List ℕ) (k p : ℕ) → k ≤ 4 → decide_by_all counts checks syndromes k p < 16
+all-small counts checks syndromes k p h = omega (arith, all-lt counts checks syndromes k p h, pow_mono {i = k} {j = 4} h)
 
 -- the vote of all checks, on all eight registers, of which those from the p-th on have no 1
 pub voted-errors : (counts checks syndromes : List ℕ) (k p : ℕ) {errors : ℕ} → p ≤ 8 → length syndromes ≡ 8 → NoneFrom p syndromes
@@ -69,8 +74,8 @@ module _ (c : Card) (G : Guarantees c) (frames : List ℕ) (t : ℕ) (r : Regist
   decide-then : decide_by_all c.counts c.checks r.syndromes c.k c.p ≡ decide_frame c frames (decided c frames (t - c.m)) (t - c.m)
   decide-then = decide-all-is c G frames (decided c frames (t - c.m)) (t - c.m) r.syndromes held_then held-beyond
 
-  module _ (sums : List ℕ) (S : HasSums c.generators c.k c.p (2 ^ c.k) sums)
-      (after : List ℕ) (errors : ℕ) (C : Corrected sums c.counts c.checks r.syndromes c.k c.p after errors) where
+  module _ (sums : List (List ℕ)) (S : HasSums c.generators c.k c.p (2 ^ c.k) sums)
+      (after : Registers) (errors : ℕ) (C : Corrected sums c.counts c.checks c.k c.p r after errors) where
     errors_are : errors ≡ decide_by_all c.counts c.checks r.syndromes c.k c.p
     errors_are = C.errors_are (omega (arith, G.checks_long))
 
@@ -78,18 +83,18 @@ module _ (c : Card) (G : Guarantees c) (frames : List ℕ) (t : ℕ) (r : Regist
     errors_lt = rw errors_are (all-lt c.counts c.checks r.syndromes c.k c.p G.k_most)
 
     -- the generators of the streams in error are taken out, or there is nothing to take out
-    fed-bit : (j a : ℕ) → j < c.p → bit (get_or after j 0) a ≡ (bit (get_or r.syndromes j 0) a + sum_below c.k (λ i. generator c i j a * bit errors i)) % 2
+    fed-bit : (j a : ℕ) → j < c.p → bit (get_or after.syndromes j 0) a ≡ (bit (get_or r.syndromes j 0) a + sum_below c.k (λ i. generator c i j a * bit errors i)) % 2
     unfolding taken_out
     fed-bit j a hj =
         ⊎_elim
-        (λ (w : (errors ≡ 0) × (after ≡ r.syndromes)).
+        (λ (w : (errors ≡ 0) × (after.syndromes ≡ r.syndromes)).
         let z : sum_below c.k (λ i. generator c i j a * bit errors i) ≡ 0 =
         sum-none c.k _ (λ i l. ap (λ e. generator c i j a * bit e i) w.0 ∙ ap (λ x. generator c i j a * x) (bit-of-zero i) ∙ omega arith) in
         ap (λ l. bit (get_or l j 0) a) w.1 ∙ omega (arith, bit-lt (get_or r.syndromes j 0) a))
         (λ w.
         ap (λ l. bit (get_or l j 0) a) w
         ∙ ap (λ x. bit x a) (part_at (taken_out sums r.syndromes errors) r.syndromes c.p j hj)
-        ∙ bit-xor (get_or r.syndromes j 0) (get_or sums (errors * 8 + j) 0) a
+        ∙ bit-xor (get_or r.syndromes j 0) (get_or (get_or sums j []) errors 0) a
         ∙ ap (λ x. (bit (get_or r.syndromes j 0) a + x) % 2) (sums-bit c G sums S errors j a errors_lt hj)
         ∙ add-mod-mod (bit (get_or r.syndromes j 0) a) _ 2)
         C.after_is
@@ -117,10 +122,10 @@ module _ (c : Card) (G : Guarantees c) (frames : List ℕ) (t : ℕ) (r : Regist
         ∙ sym (back_in (λ v. cleared c frames (decided c frames (suc t - c.m)) v j) (suc t) (c.m - a) (omega arith))
 
     -- and the registers are ready for the next frame
-    pub fed_back_first : Before c frames (suc t) (registers r.coming after)
+    pub fed_back_first : Before c frames (suc t) after
     fed_back_first =
         record {
-          coming_held = λ j a hj. W.coming_held j a hj;
+          coming_held = λ j a hj. ap (λ l. bit (get_or l j 0) a) C.coming_same ∙ W.coming_held j a hj;
           held_at = λ j a hj.
               fed-bit j (suc a) hj
               ∙ ⊎_elim

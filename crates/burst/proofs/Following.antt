@@ -3,7 +3,7 @@ use Prim.Native.Nat.{ℕ, suc, ◌+◌, ◌-◌, ◌*◌, ◌/◌, ◌%◌, ◌^
 use mathlib.Core.Path.{◌≡◌, sym, ap, ap₂, ◌∙◌}
 use mathlib.Core.Bool.{cond}
 use mathlib.Core.Logic.{⊎_elim}
-use mathlib.Core.List.{List}
+use mathlib.Core.List.{List, []}
 use native.Mathlib.Nat.{mod-lt, add_comm, eq-or-lt_of_le}
 use native.Mathlib.Omega.{arith}
 use lib.ListN.{get_or}
@@ -26,14 +26,16 @@ use Rattle.majority.specs.Rule.{syndrome, cleared}
 use Rattle.majority.specs.Plain.{decided}
 use Rattle.majority.proofs.Plain.{decided-length}
 use Rattle.majority.proofs.Feedback.{syndrome-lt, cleared-lt, cleared-new}
-use Rattle.burst.specs.Registers.{Registers, HasSums, parity_with, coming_next, syndromes_next, TakenIn}
+use Rattle.burst.specs.Sums.{HasSums}
+use Rattle.burst.specs.Registers.{parity_with, coming_next, syndromes_next, TakenIn}
+use Rattle.burst.specs.declared.registers.Registers.{Registers}
 use Rattle.burst.specs.Held.{coming_at, syndrome_held, Before, With}
 use Rattle.burst.proofs.Coming.{coming_with, coming-now, register-with, register-next}
 
 -- the digits of the table of generator sums
-pub sums-bit : (c : Card) → Guarantees c → (sums : List ℕ) → HasSums c.generators c.k c.p (2 ^ c.k) sums → (x j a : ℕ) → x < 2 ^ c.k → j < c.p
-    → bit (get_or sums (x * 8 + j) 0) a ≡ sum_below c.k (λ i. generator c i j a * bit x i) % 2
-sums-bit c G sums S x j a hx hj = ap (λ y. bit y a) (S x j hx hj) ∙ sum-bit c G x j a hj
+pub sums-bit : (c : Card) → Guarantees c → (sums : List (List ℕ)) → HasSums c.generators c.k c.p (2 ^ c.k) sums → (x j a : ℕ) → x < 2 ^ c.k → j < c.p
+    → bit (get_or (get_or sums j []) x 0) a ≡ sum_below c.k (λ i. generator c i j a * bit x i) % 2
+sums-bit c G sums S x j a hx hj = ap (λ y. bit y a) (S j hj x hx) ∙ sum-bit c G x j a hj
 
 pub held-lt : (c : Card) (frames : List ℕ) (t j a : ℕ) → syndrome_held c frames t j a < 2
 unfolding syndrome_held
@@ -52,18 +54,18 @@ held-now c frames t j a e =
     ∙ ap (λ v. cleared c frames errors v j) z
     ∙ cleared-new c frames errors t j (omega (arith, decided-length c frames (t - c.m)))
 
-module _ (c : Card) (G : Guarantees c) (sums : List ℕ) (S : HasSums c.generators c.k c.p (2 ^ c.k) sums)
+module _ (c : Card) (G : Guarantees c) (sums : List (List ℕ)) (S : HasSums c.generators c.k c.p (2 ^ c.k) sums)
     (frames : List ℕ) (t f : ℕ) (hf : f ≡ get_or frames t 0) (r : Registers) (B : Before c frames t r) where
   -- the parity register j with the frame
   parity-bit : (j a : ℕ) → j < c.p → bit (parity_with sums r.coming c.k f j) a ≡ coming_with c frames t j a
   unfolding parity_with
   parity-bit j a hj =
-      register-with c G frames t f j hj (get_or r.coming j 0) _ hf (S (f % 2 ^ c.k) j (mod-lt f (pow_pos c.k)) hj) (λ b. B.coming_held j b hj) a
+      register-with c G frames t f j hj (get_or r.coming j 0) _ hf (S j hj (f % 2 ^ c.k) (mod-lt f (pow_pos c.k))) (λ b. B.coming_held j b hj) a
 
   coming-bit : (j a : ℕ) → j < c.p → bit (coming_next sums r.coming c.k f j) a ≡ coming_at c frames (suc t) j a
   unfolding coming_next parity_with
   coming-bit j a hj =
-      register-next c G frames t f j hj (get_or r.coming j 0) _ hf (S (f % 2 ^ c.k) j (mod-lt f (pow_pos c.k)) hj) (λ b. B.coming_held j b hj) a
+      register-next c G frames t f j hj (get_or r.coming j 0) _ hf (S j hj (f % 2 ^ c.k) (mod-lt f (pow_pos c.k))) (λ b. B.coming_held j b hj) a
 
   -- the syndrome of the frame
   syndrome-is : (j : ℕ) → j < c.p

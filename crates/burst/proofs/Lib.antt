@@ -6,5 +6,6 @@ pub mod Following
 pub mod Deciding
 pub mod Waiting
 pub mod HandingOut
-pub mod OneParityReceiving
 pub mod OneParitySending
+pub mod OneParityReceiving
+pub mod Refused

@@ -1,48 +1,41 @@
 -- The two registers of one parity stream in one word: a frame put into the word, and errors taken out of it, do to the two what they do to registers
 -- in arrays.
-use Prim.Native.Nat.{ℕ, zero, suc, ◌-◌, ◌+◌, ◌*◌, ◌/◌, ◌%◌, ◌^◌, ◌≤◌, ◌<◌, min}
+use Prim.Native.Nat.{ℕ, zero, suc, ◌+◌, ◌*◌, ◌/◌, ◌%◌, ◌^◌, ◌≤◌, ◌<◌}
 use mathlib.Core.Path.{◌≡◌, refl, sym, ap, ap₂, ◌∙◌, subst}
 use mathlib.Core.Bool.{Bool, true, false, ◌||◌, true≢false}
 use mathlib.Core.Logic.{◌⊎◌, inl, inr}
-use mathlib.Core.List.{List, [], ◌∷◌, ◌++◌}
+use mathlib.Core.List.{List, [], ◌∷◌}
 use native.Mathlib.Nat.{lt_of_lt_of_le, zero-div, zero-mod, mod-lt, mod-eq_of_lt, div-eq_of_lt, zero-lt-suc, add-zero, add_comm, add_assoc, add-mul, mul_assoc, pow-succ', div-add-mod', div-one}
 use native.Mathlib.Numerals.{add-one}
 use native.Mathlib.Omega.{arith}
-use lib.ListN.{length, get_or, set, drop, replicate}
+use lib.ListN.{length, get_or, set, replicate}
 use lib.Bits.{bit_xor, block_half, xor_comm, xor_zero_r, xor_shifted, xor_block, xor_shr, xor_mod}
 use lib.Count.{ones}
-use lib.Dec.{leb, ltb}
+use lib.Dec.{leb}
 use borrow.Author.Tests.{leb-false}
 use lib.Pow.{pow_pos, pow_mono, shl-shr, split, high, low, shl_exact}
 use Rattle.bits.specs.Sums.{sum_below, up_to}
 use Rattle.bits.specs.Digits.{shift_up, any_beyond}
-use Rattle.bits.proofs.Cases.{cond-le}
-use Rattle.bits.proofs.Digits.{bit-zero, bit-xor, digits_lt, from_digits-lt, ones-sum}
+use Rattle.bits.proofs.Digits.{bit-zero, bit-xor, digits_lt, ones-sum}
 use Rattle.bits.proofs.Words.{shift-digit}
 use Rattle.code.specs.Checks.{count}
-use Rattle.code.specs.Limits.{most_checks}
 use Rattle.code.specs.Guarantees.{Guarantees}
+use Rattle.code.specs.Registers.{generator_sum}
 use Rattle.code.specs.declared.Card.{Card}
 use Rattle.code.proofs.GeneratorSums.{sum-within}
-use Rattle.majority.specs.Plain.{decoded}
 use Rattle.vote.specs.Voting.{decide_by_all}
-use Rattle.burst_vote.specs.Sorted.{votes_sorted, decide_sorted}
 use Rattle.vote.proofs.Voting.{decide-all-none}
 use Rattle.burst_vote.proofs.FewOnes.{decide-few}
-use Rattle.burst.specs.Parts.{card_from, EveryCard}
-use Rattle.burst.specs.Held.{tables, Handing, AllHandedOut}
+use Rattle.burst.specs.Sums.{HasSums}
+use Rattle.burst.specs.Held.{Before, Handing, OneParity}
 use Rattle.burst.proofs.Deciding.{all-lt}
 use Rattle.burst.proofs.HandingOut.{hand-turn}
-use Rattle.burst.specs.Registers.{registers, HasSums, parity_with, coming_next, syndromes_next, TakenIn, taken_out, Corrected, corrected_by, AtLeast, AllWithin, in_one, put_of, HasPuts}
+use Rattle.burst.proofs.Waiting.{start, wait-more}
+use Rattle.burst.specs.Registers.{registers, parity_with, coming_next, syndromes_next, TakenIn, taken_out, Corrected, corrected_by, AtLeast, AllWithin, in_one, put_of}
 
 -- twice a power of two, shifted up within the word
 pub twice-is : (k w : ℕ) → k + 2 ≤ w → 2 * 2 ^ k % 2 ^ w ≡ 2 ^ (k + 1)
 twice-is k w h = shl_exact {a = 2} 2 k w (omega arith) (omega arith) ∙ sym (pow-succ' 2 k) ∙ ap (λ n. 2 ^ n) (sym (add-one k))
-
--- the table has what the frame puts in
-pub put_in : (sums puts : List ℕ) (k m : ℕ) → HasPuts sums k m (2 ^ (k + 1)) puts → (word f : ℕ) {next : ℕ} → f < 2 ^ (k + 1)
-    → next ≡ bit_xor (word / 2) (get_or puts f 0) → next ≡ bit_xor (word / 2) (put_of sums k m f)
-put_in sums puts k m P word f l e = e ∙ ap (bit_xor (word / 2)) (P f l)
 
 -- a frame of k + 1 digits is in the table
 pub in_table : (k f : ℕ) → k ≤ 4 → f < 2 ^ (k + 1) → f < 32
@@ -58,10 +51,6 @@ unfolding any_beyond
 all-within n [] e t l = absurd (omega arith)
 all-within n (f ∷ frames) e zero l = leb-false (2 ^ n) f (neither (leb (2 ^ n) f) (any_beyond n frames) e).0
 all-within n (f ∷ frames) e (suc t) l = all-within n frames (neither (leb (2 ^ n) f) (any_beyond n frames) e).1 t (omega arith)
-
--- a word of zeros is registers of zeros
-pub of-zeros : (m : ℕ) → in_one m 0 ≡ registers (replicate 8 0) (replicate 8 0)
-of-zeros m = ap₂ (λ x y. registers (x ∷ replicate 7 0) (y ∷ replicate 7 0)) (zero-div (2 ^ (m + 1))) (zero-mod (2 ^ (m + 1)))
 
 -- ---- the two parts of a word, the low one of m + 1 places
 odd-apart : (y m : ℕ) → y * 2 ^ m ≡ y / 2 * 2 ^ (m + 1) + y % 2 * 2 ^ m
@@ -121,21 +110,20 @@ module _ (sums : List ℕ) (k m f word : ℕ) (hm : m ≤ 31) {next : ℕ} (e : 
   into-parts : next ≡ bit_xor ((word / 2 ^ (m + 1) * 2 ^ (m + 1) + word % 2 ^ (m + 1)) / 2) (put_of sums k m f)
   into-parts = e ∙ ap (λ w. bit_xor (w / 2) (put_of sums k m f)) (sym (split word (m + 1)))
 
-  coming_is : next / 2 ^ (m + 1) ≡ coming_next sums (in_one m word).coming k f 0
+  coming_is : next / 2 ^ (m + 1) ≡ coming_next (sums ∷ []) (in_one m word).coming k f 0
   unfolding put_of coming_next parity_with
   coming_is =
       let q = f / 2 ^ k % 2 in
       ap (λ w. w / 2 ^ (m + 1)) into-parts
-      ∙ moved-high (word / 2 ^ (m + 1)) (word % 2 ^ (m + 1)) m (mod-lt word (pow_pos (m + 1))) (bit_xor (get_or sums (f % 2 ^ k * 8) 0) q)
-      ∙ higher-same (word / 2 ^ (m + 1)) (get_or sums (f % 2 ^ k * 8) 0) q (mod-lt _ (zero-lt-suc 1))
-      ∙ ap (λ n. bit_xor (word / 2 ^ (m + 1)) (get_or sums n 0) / 2) (sym (add-zero (f % 2 ^ k * 8)))
+      ∙ moved-high (word / 2 ^ (m + 1)) (word % 2 ^ (m + 1)) m (mod-lt word (pow_pos (m + 1))) (bit_xor (get_or sums (f % 2 ^ k) 0) q)
+      ∙ higher-same (word / 2 ^ (m + 1)) (get_or sums (f % 2 ^ k) 0) q (mod-lt _ (zero-lt-suc 1))
 
-  syndromes_is : next % 2 ^ (m + 1) ≡ syndromes_next sums (in_one m word).coming (in_one m word).syndromes k m f 0
+  syndromes_is : next % 2 ^ (m + 1) ≡ syndromes_next (sums ∷ []) (in_one m word).coming (in_one m word).syndromes k m f 0
   unfolding put_of syndromes_next parity_with
   syndromes_is =
       let high_part = word / 2 ^ (m + 1) in
       let low_part = word % 2 ^ (m + 1) in
-      let sum = get_or sums (f % 2 ^ k * 8) 0 in
+      let sum = get_or sums (f % 2 ^ k) 0 in
       let d = bit_xor (bit_xor high_part sum) (f / 2 ^ k) % 2 in
       let hd : d < 2 = mod-lt _ (zero-lt-suc 1) in
       let hl = mod-lt word (pow_pos (m + 1)) in
@@ -145,9 +133,9 @@ module _ (sums : List ℕ) (k m f word : ℕ) (hm : m ≤ 31) {next : ℕ} (e : 
       ∙ sym (xor_shifted d m (low_part / 2) (half-low high_part low_part m hl))
       ∙ xor_comm (d * 2 ^ m) (low_part / 2)
       ∙ ap (bit_xor (low_part / 2)) (sym (shift-digit d m hd (omega arith)))
-      ∙ ap₂ (λ n x. bit_xor (low_part / 2) (shift_up (bit_xor (bit_xor high_part (get_or sums n 0)) x % 2) m)) (sym (add-zero (f % 2 ^ k * 8))) (sym (div-one (f / 2 ^ k)))
+      ∙ ap (λ x. bit_xor (low_part / 2) (shift_up (bit_xor (bit_xor high_part sum) x % 2) m)) (sym (div-one (f / 2 ^ k)))
 
-  pub taken-into : TakenIn sums k 1 m f (in_one m word) (in_one m next) (next % 2 ^ (m + 1))
+  pub taken-into : TakenIn (sums ∷ []) k 1 m f (in_one m word) (in_one m next) (next % 2 ^ (m + 1))
   unfolding up_to
   taken-into =
       record {
@@ -155,13 +143,8 @@ module _ (sums : List ℕ) (k m f word : ℕ) (hm : m ≤ 31) {next : ℕ} (e : 
         syndromes_is = ap (λ x. x ∷ replicate 7 0) syndromes_is;
         none_held = λ z j l.
             let n : j ≡ 0 = omega arith in
-            ap (syndromes_next sums (in_one m word).coming (in_one m word).syndromes k m f) n ∙ sym syndromes_is ∙ z;
+            ap (syndromes_next (sums ∷ []) (in_one m word).coming (in_one m word).syndromes k m f) n ∙ sym syndromes_is ∙ z;
       }
-
--- ---- a sum of generators has no place above m
-sums-within : (c : Card) → Guarantees c → (sums : List ℕ) → HasSums c.generators c.k c.p (2 ^ c.k) sums → (x : ℕ) → x < 2 ^ c.k
-    → get_or sums (x * 8) 0 < 2 ^ (c.m + 1)
-sums-within c G sums S x l = rw (sym (add-zero (x * 8)), S x 0 l G.p_least) (sum-within c G x 0)
 
 -- ---- errors taken out of the word are taken out of its syndromes
 above_same : (word s m : ℕ) → s < 2 ^ (m + 1) → bit_xor word s / 2 ^ (m + 1) ≡ word / 2 ^ (m + 1)
@@ -172,88 +155,100 @@ within-taken word s m l = xor_mod word s (m + 1) ∙ ap (bit_xor (word % 2 ^ (m 
 
 -- ---- one frame more under a card with one parity stream
 
--- four streams at most are decided
-pub sorted-small : (counts alone several left : List ℕ) (word k : ℕ) {errors : ℕ} → errors ≡ decide_sorted counts alone several left word k → errors < 16
-unfolding decide_sorted
-sorted-small counts alone several left word k e =
-    rw e
-    (lt_of_lt_of_le (from_digits-lt (min k 4) _ (λ i l. let w = cond-le (ltb (min (get_or counts i 0) most_checks) (2 * votes_sorted alone several left i word)) 1 0 1 (omega arith) (omega arith) in omega (arith, w)))
-    (pow_mono {i = min k 4} {j = 4} (omega arith)))
+-- the errors are fed back, or there are none
+abbrev pub FedBack : ℕ → List ℕ → ℕ → ℕ → ℕ → Type 0
+FedBack word puts m errors next = ((errors ≡ 0) × (next ≡ word)) ⊎ (next ≡ bit_xor word (get_or puts errors 0 / 2 ^ m))
 
-module _ (number : ℕ) (g counts checks : List ℕ) (k m : ℕ) (G : Guarantees (card_from number g counts checks k 1 m))
-    (sums : List ℕ) (S : HasSums g k 1 (2 ^ k) sums) (frames : List ℕ) where
+module _ (c : Card) (puts : List ℕ) (O : OneParity c puts) where
+  sums_are : HasSums c.generators c.k c.p (2 ^ c.k) (O.sums ∷ [])
+  sums_are j l x lx =
+      let z : j ≡ 0 = omega (arith, O.one) in
+      subst (λ j. get_or (get_or (O.sums ∷ []) j []) x 0 ≡ generator_sum c.generators c.k x j) (sym z) (O.sums_are x lx)
+
   -- what the errors would put in, a place for m lower, is their generators
-  errors-out : (puts : List ℕ) → HasPuts sums k m (2 ^ (k + 1)) puts → (errors : ℕ) → errors < 2 ^ k → get_or puts errors 0 / 2 ^ m ≡ get_or sums (errors * 8) 0
+  errors-out : (errors : ℕ) → errors < 2 ^ c.k → get_or puts errors 0 / 2 ^ c.m ≡ get_or O.sums errors 0
   unfolding put_of
-  errors-out puts P errors l =
-      let w : errors < 2 ^ (k + 1) = lt_of_lt_of_le l (pow_mono {i = k} {j = k + 1} (omega arith)) in
-      ap (λ x. x / 2 ^ m) (P errors w)
-      ∙ shl-shr _ m
-      ∙ ap₂ (λ x q. bit_xor (get_or sums (x * 8) 0) (q % 2)) (mod-eq_of_lt l) (div-eq_of_lt l)
+  errors-out errors l =
+      let w : errors < 2 ^ (c.k + 1) = lt_of_lt_of_le l (pow_mono {i = c.k} {j = c.k + 1} (omega arith)) in
+      ap (λ x. x / 2 ^ c.m) (O.puts_are errors w)
+      ∙ shl-shr _ c.m
+      ∙ ap₂ (λ x q. bit_xor (get_or O.sums x 0) (q % 2)) (mod-eq_of_lt l) (div-eq_of_lt l)
       ∙ xor_zero_r _
 
   -- the syndromes that the next word holds are those of this one without the errors, and the parity digits to come are the same
-  fed-into : (puts : List ℕ) → HasPuts sums k m (2 ^ (k + 1)) puts → {word next errors : ℕ} → errors ≡ decide_by_all counts checks (in_one m word).syndromes k 1
-      → ((errors ≡ 0) × (next ≡ word)) ⊎ (next ≡ bit_xor word (get_or puts errors 0 / 2 ^ m))
-      → (next / 2 ^ (m + 1) ≡ word / 2 ^ (m + 1)) × Corrected sums counts checks (in_one m word).syndromes k 1 (in_one m next).syndromes errors
+  fed-into : {word next errors : ℕ} → errors ≡ decide_by_all c.counts c.checks (in_one c.m word).syndromes c.k 1 → FedBack word puts c.m errors next
+      → Corrected (O.sums ∷ []) c.counts c.checks c.k 1 (in_one c.m word) (in_one c.m next) errors
   unfolding taken_out up_to
-  fed-into puts P {word} {next} {errors} e (inl w) = (
-    ap (λ x. x / 2 ^ (m + 1)) w.1,
-    record { errors_are = λ long. e; errors_lt = omega (arith, w.0); after_is = inl (w.0, ap (λ x. x % 2 ^ (m + 1) ∷ replicate 7 0) w.1) },
-  )
-  fed-into puts P {word} {next} {errors} e (inr w) =
-      let s = get_or sums (errors * 8) 0 in
-      let small : errors < 2 ^ k = rw e (all-lt counts checks (in_one m word).syndromes k 1 G.k_most) in
-      let l : s < 2 ^ (m + 1) = sums-within (card_from number g counts checks k 1 m) G sums S errors small in
-      let w' : next ≡ bit_xor word s = w ∙ ap (bit_xor word) (errors-out puts P errors small) in (
-        ap (λ x. x / 2 ^ (m + 1)) w' ∙ above_same word s m l,
-        record {
-          errors_are = λ long. e;
-          errors_lt = lt_of_lt_of_le small (pow_mono {i = k} {j = 4} G.k_most);
-          after_is = inr (ap (λ x. x ∷ replicate 7 0)
-              (ap (λ x. x % 2 ^ (m + 1)) w' ∙ within-taken word s m l ∙ ap (λ n. bit_xor (word % 2 ^ (m + 1)) (get_or sums n 0)) (sym (add-zero (errors * 8)))));
-        },
-      )
+  fed-into {word} {next} {errors} e (inl w) =
+      record {
+        errors_are = λ long. e;
+        errors_lt = omega (arith, w.0);
+        coming_same = ap (λ x. x / 2 ^ (c.m + 1) ∷ replicate 7 0) w.1;
+        after_is = inl (w.0, ap (λ x. x % 2 ^ (c.m + 1) ∷ replicate 7 0) w.1);
+      }
+  fed-into {word} {next} {errors} e (inr w) =
+      let s = get_or O.sums errors 0 in
+      let small : errors < 2 ^ c.k = rw e (all-lt c.counts c.checks (in_one c.m word).syndromes c.k 1 O.guaranteed.k_most) in
+      let l : s < 2 ^ (c.m + 1) = rw (O.sums_are errors small) (sum-within c O.guaranteed errors 0) in
+      let w' : next ≡ bit_xor word s = w ∙ ap (bit_xor word) (errors-out errors small) in
+      record {
+        errors_are = λ long. e;
+        errors_lt = lt_of_lt_of_le small (pow_mono {i = c.k} {j = 4} O.guaranteed.k_most);
+        coming_same = ap (λ x. x ∷ replicate 7 0) (ap (λ x. x / 2 ^ (c.m + 1)) w' ∙ above_same word s c.m l);
+        after_is = inr (ap (λ x. x ∷ replicate 7 0) (ap (λ x. x % 2 ^ (c.m + 1)) w' ∙ within-taken word s c.m l));
+      }
 
-  module _ (puts : List ℕ) (P : HasPuts sums k m (2 ^ (k + 1)) puts) (within : AllWithin (k + 1) frames) where
+  module _ (frames : List ℕ) (within : AllWithin (c.k + 1) frames) where
+    -- a frame of the input, in the word
+    turned : (t word : ℕ) {next : ℕ} → t < length frames → next ≡ bit_xor (word / 2) (get_or puts (get_or frames t 0) 0)
+        → TakenIn (O.sums ∷ []) c.k c.p c.m (get_or frames t 0) (in_one c.m word) (in_one c.m next) (next % 2 ^ (c.m + 1))
+    turned t word {next} l e =
+        let f = get_or frames t 0 in
+        subst (λ p. TakenIn (O.sums ∷ []) c.k p c.m f (in_one c.m word) (in_one c.m next) (next % 2 ^ (c.m + 1))) (sym O.one)
+        (taken-into O.sums c.k c.m f word O.guaranteed.m_most (e ∙ ap (bit_xor (word / 2)) (O.puts_are f (within t l))))
+
+    pub word-waits : (t word : ℕ) {next : ℕ} → t < c.m → t < length frames → next ≡ bit_xor (word / 2) (get_or puts (get_or frames t 0) 0)
+        → Before c frames t (in_one c.m word) → Before c frames (t + 1) (in_one c.m next)
+    word-waits t word h l e B = wait-more c O.guaranteed (O.sums ∷ []) sums_are frames t h refl (turned t word l e) B
+
     pub word-turn : (u v word : ℕ) (output₀ : List ℕ) {taken next errors : ℕ} {output : List ℕ}
-        → u + m < length frames → length frames ≤ length output₀ + m
-        → taken ≡ bit_xor (word / 2) (get_or puts (get_or frames (u + m) 0) 0)
-        → errors ≡ decide_by_all counts checks (in_one m taken).syndromes k 1
-        → ((errors ≡ 0) × (next ≡ taken)) ⊎ (next ≡ bit_xor taken (get_or puts errors 0 / 2 ^ m))
-        → v ≡ corrected_by (get_or frames u 0) k errors
-        → Handing (card_from number g counts checks k 1 m) frames output₀ u (in_one m word) output
-        → Handing (card_from number g counts checks k 1 m) frames output₀ (u + 1) (in_one m next) (set output u v)
-    word-turn u v word output₀ {taken} {next} {errors} {output} ht ho e d w q handing =
-        let c = card_from number g counts checks k 1 m in
-        let both = fed-into puts P d w in
-        subst (λ x. Handing c frames output₀ (u + 1) (registers (x ∷ replicate 7 0) (in_one m next).syndromes) (set output u v)) (sym both.0)
-        (hand-turn c G sums S frames u v output₀ ht ho
-        (taken-into sums k m (get_or frames (u + m) 0) word G.m_most (put_in sums puts k m P word (get_or frames (u + m) 0) (within (u + m) ht) e)) both.1 q handing)
+        → u + c.m < length frames → length frames ≤ length output₀ + c.m
+        → taken ≡ bit_xor (word / 2) (get_or puts (get_or frames (u + c.m) 0) 0)
+        → errors ≡ decide_by_all c.counts c.checks (in_one c.m taken).syndromes c.k 1
+        → FedBack taken puts c.m errors next
+        → v ≡ corrected_by (get_or frames u 0) c.k errors
+        → Handing c frames output₀ u (in_one c.m word) output
+        → Handing c frames output₀ (u + 1) (in_one c.m next) (set output u v)
+    word-turn u v word output₀ {taken} {next} {errors} ht ho e d w q handing =
+        hand-turn c O.guaranteed (O.sums ∷ []) sums_are frames u v output₀ ht ho (turned (u + c.m) word ht e)
+        (subst (λ p. Corrected (O.sums ∷ []) c.counts c.checks c.k p (in_one c.m taken) (in_one c.m next) errors) (sym O.one) (fed-into d w)) q handing
 
     -- while no syndrome is 1 nothing is decided to be wrong
     pub word-through : (u v word : ℕ) (output₀ : List ℕ) {next : ℕ} {output : List ℕ}
-        → u + m < length frames → length frames ≤ length output₀ + m
-        → next ≡ bit_xor (word / 2) (get_or puts (get_or frames (u + m) 0) 0)
-        → next % 2 ^ (m + 1) ≡ 0
-        → v ≡ corrected_by (get_or frames u 0) k 0
-        → Handing (card_from number g counts checks k 1 m) frames output₀ u (in_one m word) output
-        → Handing (card_from number g counts checks k 1 m) frames output₀ (u + 1) (in_one m next) (set output u v)
+        → u + c.m < length frames → length frames ≤ length output₀ + c.m
+        → next ≡ bit_xor (word / 2) (get_or puts (get_or frames (u + c.m) 0) 0)
+        → next % 2 ^ (c.m + 1) ≡ 0
+        → v ≡ corrected_by (get_or frames u 0) c.k 0
+        → Handing c frames output₀ u (in_one c.m word) output
+        → Handing c frames output₀ (u + 1) (in_one c.m next) (set output u v)
     word-through u v word output₀ {next} ht ho e z q handing =
         word-turn u v word output₀ ht ho e
-        (sym (decide-all-none counts checks (in_one m next).syndromes k 1 (λ j l. let n : j ≡ 0 = omega arith in ap (λ i. get_or (in_one m next).syndromes i 0) n ∙ z)))
+        (sym (decide-all-none c.counts c.checks (in_one c.m next).syndromes c.k 1
+        (λ j l. let n : j ≡ 0 = omega arith in ap (λ i. get_or (in_one c.m next).syndromes i 0) n ∙ z)))
         (inl (refl, refl)) q handing
 
--- nothing either while too few syndromes are 1
-pub few-held : (number : ℕ) (g counts checks : List ℕ) (k m : ℕ) → Guarantees (card_from number g counts checks k 1 m)
-    → (held least : ℕ) → held < 2 ^ 32 → AtLeast counts k least → 2 * ones held ≤ least → decide_by_all counts checks (held ∷ replicate 7 0) k 1 ≡ 0
-unfolding sum_below count
-few-held number g counts checks k m G held least hh counted few =
-    decide-few (card_from number g counts checks k 1 m) G (held ∷ replicate 7 0) (λ i l. omega (arith, few, counted i l, ones-sum 32 held hh))
+-- registers of zeros in one word
+pub of-zeros : (c : Card) (frames : List ℕ) → Before c frames 0 (in_one c.m 0)
+of-zeros c frames =
+    subst (Before c frames 0) (sym (ap₂ (λ x y. registers (x ∷ replicate 7 0) (y ∷ replicate 7 0)) (zero-div (2 ^ (c.m + 1))) (zero-mod (2 ^ (c.m + 1)))))
+    (start c frames)
 
--- ---- a card whose parity streams are one
-pub of_one-parity : (g counts checks sums : List ℕ) (k m : ℕ) (frames output : List ℕ) {p : ℕ} {output' : List ℕ} → p ≡ 1 → HasSums g k p (2 ^ k) sums
-    → AllHandedOut (tables sums counts checks k 1 m) frames output output'
-    → EveryCard g counts checks k p m (λ c. output' ≡ decoded c frames ++ drop (length frames - m) output)
-of_one-parity g counts checks sums k m frames output {output' = output'} e S all =
-    subst (λ p. HasSums g k p (2 ^ k) sums → EveryCard g counts checks k p m (λ c. output' ≡ decoded c frames ++ drop (length frames - m) output)) (sym e) (all g) S
+-- ---- the vote
+
+-- nothing is decided to be wrong while too few syndromes are 1
+pub few-held : (c : Card) → Guarantees c → c.p ≡ 1 → (held least : ℕ) → held < 2 ^ 32 → AtLeast c.counts c.k least → 2 * ones held ≤ least
+    → decide_by_all c.counts c.checks (held ∷ replicate 7 0) c.k 1 ≡ 0
+unfolding sum_below count
+few-held c G one held least hh counted few =
+    subst (λ p. decide_by_all c.counts c.checks (held ∷ replicate 7 0) c.k p ≡ 0) one
+    (decide-few c G (held ∷ replicate 7 0) (λ i l. let z : c.p ≡ 1 = one in rw z (omega (arith, few, counted i l, ones-sum 32 held hh))))

@@ -1,24 +1,27 @@
 -- The first frames: registers of zeros are ready for the frame of time 0, and after each of the first m frames they are ready for the next.
-use Prim.Native.Nat.{ℕ, suc, ◌+◌, ◌-◌, ◌≤◌, ◌<◌}
-use mathlib.Core.Path.{◌≡◌, refl, sym, ap, ap₂, ◌∙◌}
+use Prim.Native.Nat.{ℕ, suc, ◌+◌, ◌-◌, ◌^◌, ◌≤◌, ◌<◌}
+use mathlib.Core.Path.{◌≡◌, sym, ap, ap₂, ◌∙◌}
 use mathlib.Core.Bool.{cond}
 use mathlib.Core.Logic.{⊎_elim}
 use mathlib.Core.List.{List}
 use native.Mathlib.Omega.{arith}
 use native.Mathlib.Numerals.{add-one}
-use lib.ListN.{length, get_or, replicate}
+use lib.ListN.{get_or, replicate}
 use borrow.Author.Tests.{lt-ltb, le-ltb, le-leb, lt-leb}
 use Rattle.bits.specs.Sums.{back}
 use Rattle.bits.specs.Digits.{bit}
-use Rattle.bits.proofs.Lists.{zeros-at, part_length, part-rest}
+use Rattle.bits.proofs.Lists.{zeros-at, part-rest}
 use Rattle.bits.proofs.Back.{back-out, back-suc}
 use Rattle.bits.proofs.Cases.{le-or-lt}
 use Rattle.bits.proofs.Digits.{bit-of-zero}
 use Rattle.code.specs.declared.Card.{Card}
 use Rattle.majority.specs.Rule.{cleared}
 use Rattle.majority.specs.Plain.{decided}
-use Rattle.burst.specs.Registers.{Registers, registers, coming_next, syndromes_next, TakenIn, NoneFrom}
-use Rattle.burst.specs.Held.{syndrome_held, Before, With, Tables, card_with, Carried}
+use Rattle.code.specs.Guarantees.{Guarantees}
+use Rattle.burst.specs.Sums.{HasSums}
+use Rattle.burst.specs.Registers.{registers, syndromes_next, TakenIn, NoneFrom}
+use Rattle.burst.specs.declared.registers.Registers.{Registers}
+use Rattle.burst.specs.Held.{syndrome_held, Before, With}
 use Rattle.burst.proofs.Coming.{coming-start}
 use Rattle.burst.proofs.Following.{taken_in}
 
@@ -67,22 +70,13 @@ waiting c frames t h W =
     }
 
 -- ---- frames taken in one after the other
-module _ {sums : List ℕ} {k p m f held : ℕ} {before after : Registers} (T : TakenIn sums k p m f before after held) (hp : p ≤ 8) where
-  pub coming-length : length before.coming ≡ 8 → length after.coming ≡ 8
-  coming-length e = ap length T.coming_is ∙ part_length (coming_next sums before.coming k f) before.coming p (omega arith) ∙ e
-
-  pub syndromes-length : length before.syndromes ≡ 8 → length after.syndromes ≡ 8
-  syndromes-length e =
-      ap length T.syndromes_is ∙ part_length (syndromes_next sums before.coming before.syndromes k m f) before.syndromes p (omega arith) ∙ e
-
-  pub none-beyond : NoneFrom p before.syndromes → NoneFrom p after.syndromes
-  none-beyond z j l =
-      ap (λ y. get_or y j 0) T.syndromes_is ∙ part-rest (syndromes_next sums before.coming before.syndromes k m f) before.syndromes p j l ∙ z j l
+pub none-beyond : {sums : List (List ℕ)} {k p m f held : ℕ} {before after : Registers} → TakenIn sums k p m f before after held
+    → NoneFrom p before.syndromes → NoneFrom p after.syndromes
+none-beyond {sums} {k} {p} {m} {f} {before = before} T z j l =
+    ap (λ y. get_or y j 0) T.syndromes_is ∙ part-rest (syndromes_next sums before.coming before.syndromes k m f) before.syndromes p j l ∙ z j l
 
 -- one frame more for which nothing is handed out
-pub wait-more : (tables : Tables) (frames : List ℕ) (t : ℕ) {before now after : Registers} {held : ℕ} → t < tables.m
-    → TakenIn tables.sums tables.k tables.p tables.m (get_or frames t 0) now after held
-    → Carried tables frames t before now → Carried tables frames (t + 1) before after
-wait-more tables frames t {now = now} h T carried g e number G B =
-    let c = card_with number g tables in
-    rw add-one (waiting c frames t h (taken_in c G tables.sums e frames t (get_or frames t 0) refl now (carried g e number G B) T))
+pub wait-more : (c : Card) → Guarantees c → (sums : List (List ℕ)) → HasSums c.generators c.k c.p (2 ^ c.k) sums → (frames : List ℕ) (t : ℕ)
+    {before after : Registers} {f held : ℕ} → t < c.m → f ≡ get_or frames t 0 → TakenIn sums c.k c.p c.m f before after held
+    → Before c frames t before → Before c frames (t + 1) after
+wait-more c G sums S frames t {before = before} {f = f} h hf T B = rw add-one (waiting c frames t h (taken_in c G sums S frames t f hf before B T))

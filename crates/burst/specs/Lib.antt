@@ -1,4 +1,4 @@
+pub mod Sums
 pub mod Registers
-pub mod Parts
 pub mod Held
 pub mod Sent

@@ -1,58 +1,48 @@
 // Receiving under a card with any number of parity streams: the registers of each in arrays.
-ghost use Rattle.std.specs.Prelude.{◌≡◌, List, ℕ, ◌+◌, ◌≤◌, length};
-ghost use Rattle.burst.specs.Registers.{registers, NoneFrom};
-ghost use Rattle.burst.specs.Held.{tables, Carried, AllHandedOut};
+ghost use Rattle.std.specs.Prelude.{◌≡◌, ◌++◌, ◌+◌, ◌-◌, ◌^◌, ◌≤◌, length, drop};
+ghost use Rattle.code.specs.Guarantees.{Guarantees};
+ghost use Rattle.majority.specs.Plain.{decoded};
+ghost use Rattle.burst.specs.Sums.{HasSums};
+ghost use Rattle.burst.specs.Registers.{NoneFrom};
+ghost use Rattle.burst.specs.Held.{Before};
 
-use crate::registers::{correct, corrected, take_in};
-use code::CHECK_WORDS;
+use crate::registers::{Registers, corrected, generator_sums};
+use code::Card;
 
-// The first m frames, for which nothing is handed out.
-fn fill(
-    syndromes: &mut [u32; 8],
-    coming: &mut [u32; 8],
-    sums: &[u32; 128],
-    k: usize,
-    p: usize,
-    m: usize,
-    input: &[u8],
-)
-    requires k_bound { (k ≤ 4) × (k + p ≤ 8) × (m ≤ 31) × (m ≤ length input.now) }
-    requires syndromes_len { (length syndromes.old ≡ 8) × (length coming.old ≡ 8) × NoneFrom p syndromes.old }
-    ensures syndromes_len_2 { (length syndromes.new ≡ 8) × (length coming.new ≡ 8) × NoneFrom p syndromes.new }
-    ensures by_index { (counts checks : List ℕ) → Carried (tables sums.now counts checks k p m) input.now m
-        (registers coming.old syndromes.old) (registers coming.new syndromes.new) }
+// The registers after the first m frames, for which nothing is handed out.
+fn filled(card: &Card, sums: &[[u32; 16]; 8], input: &[u8]) -> Registers
+    requires guaranteed { Guarantees card.now }
+    requires sums_are { HasSums card.now.generators card.now.k card.now.p (2 ^ card.now.k) sums.now }
+    requires frames { card.now.m ≤ length input.now }
+    ensures ready { Before card.now input.now card.now.m result }
+    ensures none_beyond { NoneFrom card.now.p result.syndromes }
 {
-    let mut t = 0;
-    while t < m {
-        take_in(syndromes, coming, sums, k, p, m, input[t]);
-        t += 1;
+    let mut registers = Registers {
+        coming: [0u32; 8],
+        syndromes: [0u32; 8],
+    };
+    for frame in &input[..card.m] {
+        registers.take_in(sums, card.k, card.p, card.m, *frame);
     }
+    registers
 }
 
-// A whole burst of m frames or more: each but the last m is handed out, corrected.
-pub(crate) fn receive<'a>(
-    sums: &[u32; 128],
-    counts: &'a [u32; 4],
-    checks: &'a [u32; CHECK_WORDS],
-    k: usize,
-    p: usize,
-    m: usize,
-    input: &[u8],
-    output: &mut [u8],
-)
-    requires k_bound { (k ≤ 4) × (k + p ≤ 8) × (m ≤ 31) }
-    requires m_in_bounds { (m ≤ length input.now) × (length input.now ≤ length output.old + m) }
-    ensures { AllHandedOut (tables sums.now counts.now checks.now k p m) input.now output.old output.new }
+// A whole burst of m frames or more: each but the last m is handed out, corrected. The sizes are in locals, which costs less in the loop than a card
+// that is lent.
+pub(crate) fn receive(card: &Card, input: &[u8], output: &mut [u8])
+    requires guaranteed { Guarantees card.now }
+    requires frames { card.now.m ≤ length input.now }
+    requires room { length input.now ≤ length output.old + card.now.m }
+    ensures { output.new ≡ decoded card.now input.now ++ drop (length input.now - card.now.m) output.old }
 {
-    let mut syndromes = [0u32; 8];
-    let mut coming = [0u32; 8];
-    fill(&mut syndromes, &mut coming, sums, k, p, m, input);
-    let end = input.len() - m;
-    let mut u = 0;
-    while u < end {
-        let held = take_in(&mut syndromes, &mut coming, sums, k, p, m, input[u + m]);
-        let errors = correct(&mut syndromes, held, sums, counts, checks, k, p);
+    let k = card.k;
+    let p = card.p;
+    let m = card.m;
+    let sums = generator_sums(&card.generators, k, p);
+    let mut registers = filled(card, &sums, input);
+    for u in 0..input.len() - m {
+        let held = registers.take_in(&sums, k, p, m, input[u + m]);
+        let errors = registers.correct(held, &sums, &card.counts, &card.checks, k, p);
         output[u] = corrected(input[u], k, errors);
-        u += 1;
     }
 }

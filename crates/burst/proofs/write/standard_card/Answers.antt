@@ -1,18 +1,18 @@
--- What writing came to, as a number.
-use mathlib.Core.Path.{sym, ap, ◌∙◌}
+use Prim.Native.Nat.{◌≤◌, ℕ}
+use mathlib.Core.Path.{◌≡◌, sym, ap, ◌∙◌}
 use native.Mathlib.Omega.{arith}
 use lib.IntN.{ℤ}
-use Rattle.outcomes.specs.Outcome.{outcome}
+use Rattle.std.specs.Prelude.{Ok}
+use Rattle.code.specs.Code.{most_frames}
+use Rattle.outcomes.specs.Outcome.{outcome, answer_of}
+use Rattle.outcomes.proofs.Answers.{answer-held}
 use Rattle.standard.proofs.Answers.{count_most}
-use Rattle.outcomes.proofs.Answers.{answer-is}
 use Rattle.burst.proofs.write.standard_card.Goals as goal
 
-pub answered-requires : goal.answered-requires
-answered-requires c = λ n e.
-    let answer = c.write_standard in
-    let told = ap (λ (z : ℤ). outcome z answer.new.output) (sym e) in
-    omega (arith, count_most c.args.checks c.args.output.now answer.ensures.standard_cards (told ∙ answer.ensures.output_after))
-
-pub returns : goal.returns
-returns c =
-    let answer = c.write_standard in record { output_after = ap (λ (z : ℤ). outcome z answer.new.output) (answer-is c.answered.result c.answered.type_inv c.answered.ensures) ∙ answer.ensures.output_after; standard_cards = answer.ensures.standard_cards }
+pub returns-clause-output_after : goal.returns-clause-output_after
+returns-clause-output_after c =
+    let wrote = c.write_standard in
+    let after = wrote.new.output in
+    let few : (count : ℕ) → wrote.result ≡ Ok count → count ≤ most_frames = λ count e.
+    omega (arith, count_most c.args.checks c.args.output.now wrote.ensures.standard_cards (ap (λ came. outcome (answer_of came) after) (sym e) ∙ wrote.ensures.output_after)) in
+    ap (λ (z : ℤ). outcome z after) (answer-held c.of.result wrote.result c.of.type_inv c.of.ensures few) ∙ wrote.ensures.output_after
