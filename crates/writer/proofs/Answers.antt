@@ -1,6 +1,6 @@
 -- What writing a card comes to: under each condition, and from what was laid out in no room, which counts the bytes, and in the output.
-use Prim.Native.Nat.{ℕ, ◌≤◌, ◌<◌}
-use mathlib.Core.Path.{◌≡◌, refl, sym, ap, ap₂, ◌∙◌}
+use Prim.Native.Nat.{ℕ, ◌-◌, ◌^◌, ◌≤◌, ◌<◌, min}
+use mathlib.Core.Path.{◌≡◌, refl, sym, ap, ◌∙◌}
 use mathlib.Core.List.{List, ◌++◌}
 use native.Mathlib.Omega.{arith}
 use lib.ListN.{length, drop, length-append}
@@ -15,10 +15,7 @@ use Rattle.card.specs.Refusals.{number_of}
 use Rattle.card.specs.declared.Refusal.{Refusal}
 use Rattle.card.proofs.CardLength.{head-size}
 use Rattle.outcomes.specs.Outcome.{BurstOutcome, outcome, answer_of, refused_of, given_of, under_card}
-use Rattle.outcomes.specs.Wrote.{Stored}
-use Rattle.outcomes.specs.declared.cursor.Cursor.{Cursor}
 use Rattle.outcomes.proofs.Outcomes.{no-refusal, refused-is, given_is, fitted_short, fitted-given}
-use Rattle.outcomes.proofs.Writing.{stored-front}
 use Rattle.card.specs.Written.{fields_of, written}
 use Rattle.writer.specs.Outcome.{write_under, write_of}
 use Rattle.writer.specs.Claims.{ReadsAs}
@@ -57,17 +54,15 @@ module _ (c : Card) (output : List ℕ) where
   never-refused refusal l e =
       no-refusal (number_of refusal) (length (written c)) (written-some c) (ap (λ (b : BurstOutcome). b.answer) (e ∙ write-given l))
 
--- ---- what was laid out from the front on: in no room, which counts the bytes, and in the output
-module _ (c : Card) {room counted : Cursor} (w : Stored room counted (written c)) (none : room.at ≡ 0) (output : List ℕ) where
-  pub answer-short : length output < counted.at → outcome (neg_ℤ (pos 13)) output ≡ write_under c output
-  answer-short l = refused-is 13 output refl ∙ sym (write-short c output (omega (arith, w.at_is)))
+-- ---- what was laid out: the count, and the bytes where there is room
+module _ (c : Card) (output : List ℕ) {count : ℕ} (e : count ≡ min (length (written c)) (2 ^ 64 - 1)) where
+  pub answer-short : length output < count → outcome (neg_ℤ (pos 13)) output ≡ write_under c output
+  answer-short l = refused-is 13 output refl ∙ sym (write-short c output (omega arith))
 
-  pub answer-count : {front after : Cursor} → counted.at ≤ length output → Stored front after (written c) → front.at ≡ 0 → front.output.now ≡ output
-      → outcome (pos after.at) after.output.now ≡ write_under c output
-  answer-count {front} {after} l v start e =
-      let whole : length front.output.now ≡ length output = ap length e in
-      let few : length (written c) ≤ length output = omega (arith, w.at_is, v.length_most) in
-      let count : length (written c) ≡ after.at = omega (arith, v.at_is, v.length_most) in
-      given_is after.at (written c) output count refl
-      (stored-front v start (omega arith) ∙ ap₂ (λ (n : ℕ) (l : List ℕ). written c ++ drop n l) count e)
-      ∙ sym (write-given c output few)
+  pub answer-count : {after : List ℕ} → length output < 2 ^ 63 → count ≤ length output
+      → (length (written c) ≤ length output → after ≡ written c ++ drop (length (written c)) output) → outcome (pos count) after ≡ write_under c output
+  answer-count {after} most l front =
+      let room : length (written c) ≤ length output = omega arith in
+      let all : length (written c) ≡ count = omega arith in
+      given_is count (written c) output all refl (front room ∙ ap (λ (n : ℕ). written c ++ drop n output) all)
+      ∙ sym (write-given c output room)

@@ -4,9 +4,8 @@
 mod masks;
 mod parts;
 
-ghost use Rattle.std.specs.Prelude.{◌≡◌};
+ghost use Rattle.std.specs.Prelude.{◌≡◌, ◌++◌, ◌-◌, ◌^◌, ◌≤◌, min, length, drop};
 ghost use Rattle.outcomes.specs.Outcome.{outcome, answer_of};
-ghost use Rattle.outcomes.specs.Wrote.{Stored};
 ghost use Rattle.card.specs.Written.{written};
 ghost use Rattle.writer.specs.Outcome.{write_under};
 ghost use Rattle.writer.specs.Claims.{WrittenForm};
@@ -15,12 +14,17 @@ use card::Refusal;
 use code::Card;
 use outcomes::cursor::Cursor;
 
-fn lay_out(cursor: &mut Cursor<'_>, card: &Card)
-    ensures { Stored cursor.old cursor.new (written card.now) }
+// The bytes of a card, as many as the output has room for: the count of them all, held to the largest number.
+fn lay_out(output: &mut [u8], card: &Card) -> usize
+    ensures count { result ≡ min (length (written card.now)) (2 ^ 64 - 1) }
+    ensures front { length (written card.now) ≤ length output.old
+        → output.new ≡ written card.now ++ drop (length (written card.now)) output.old }
 {
-    parts::head(cursor, card);
-    parts::generators(cursor, card);
-    parts::streams(cursor, card);
+    let mut cursor = Cursor::new(output);
+    parts::head(&mut cursor, card);
+    parts::generators(&mut cursor, card);
+    parts::streams(&mut cursor, card);
+    cursor.at
 }
 
 // Writes a card: the count of bytes, or 13 where the output is too short. Only that many bytes are written, and a refused call writes none.
@@ -28,13 +32,10 @@ pub fn write_card(card: Card, output: &mut [u8]) -> Result<usize, Refusal>
     ensures output_after { outcome (answer_of result) output.new ≡ write_under card output.old }
     ensures written_form { WrittenForm card }
 {
-    // Laid out in no room, the bytes are counted.
-    let mut counted = Cursor::new(&mut []);
-    lay_out(&mut counted, &card);
-    if output.len() < counted.at {
+    let count = lay_out(&mut [], &card);
+    if output.len() < count {
         return Err(Refusal::OutputTooShort);
     }
-    let mut written = Cursor::new(output);
-    lay_out(&mut written, &card);
-    Ok(written.at)
+    lay_out(output, &card);
+    Ok(count)
 }

@@ -9,4 +9,4 @@ unfolding layout_masks
 loop-value-init c = stored-nothing c.args.cursor.now (omega arith)
 
 pub loop-value-preserved : goal.loop-value-preserved
-loop-value-preserved c = stored-as (masks-next c.args.masks.now c.loop-value.value-index (omega arith)) (stored-both c.loop-value.invariant c.mask.ensures)
+loop-value-preserved c = stored-as (masks-next c.args.masks.now _ (omega arith)) (stored-both c.loop-value.invariant c.mask.ensures)
