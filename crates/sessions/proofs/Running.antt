@@ -1,55 +1,43 @@
--- A run under way: what it has handed out so far stands at the front of the output. And what a run comes to under each condition.
-use Prim.Native.Nat.{ℕ, ◌+◌, ◌≤◌, ◌<◌}
+-- A run under way: what it has handed out so far is stored, and the rest is still to come. And what a run comes to under each condition.
+use Prim.Native.Nat.{ℕ, ◌^◌, ◌≤◌, ◌<◌}
 use mathlib.Core.Path.{◌≡◌, refl, sym, ap, ◌∙◌}
-use mathlib.Core.List.{List, [], ◌∷◌, ◌++◌, append_assoc, append-nil}
-use native.Mathlib.Numerals.{add-one}
+use mathlib.Core.List.{List, [], ◌++◌, append_assoc, append-nil}
 use native.Mathlib.Omega.{arith}
-use lib.ListN.{length, take, drop, set, length-append, take-append-drop}
-use lib.IntN.{ℤ, pos}
-use lib.Seq.{set_split, take-append_seam, drop-append-add, drop-drop}
+use lib.IntN.{pos}
+use lib.ListN.{length, drop}
 use borrow.Author.Tests.{lt-ltb, le-ltb}
 use Rattle.code.specs.Code.{most_frames}
 use Rattle.card.specs.Outcome.{Outcome, accepted, refused}
 use Rattle.outcomes.specs.Outcome.{BurstOutcome, outcome, refused_of, under_card}
+use Rattle.outcomes.specs.Wrote.{Stored}
+use Rattle.outcomes.specs.declared.cursor.Cursor.{Cursor}
 use Rattle.outcomes.proofs.Outcomes.{given_is}
-use Rattle.sessions.specs.Run.{run_of, PutAt, Handed}
+use Rattle.outcomes.proofs.Writing.{stored-nothing, stored-both, stored-as, stored-front}
+use Rattle.sessions.specs.Run.{run_of}
 
--- ---- what a call puts into the output
-pub put_one : (output : List ℕ) (at f : ℕ) → at < length output → PutAt at (f ∷ []) output (set output at f) (at + 1)
-put_one output at f h = record { next_is = refl; output_is = rw (append_assoc, add-one) (set_split output at f h) }
-
-pub put-none : (output : List ℕ) (at : ℕ) → PutAt at [] output output at
-put-none output at = record { next_is = omega arith; output_is = rw append-nil (sym (take-append-drop at output)) }
-
--- ---- a run that has handed out some of all its frames, and the rest is still to come
-pub record Partly (frames rest before output : List ℕ) (count : ℕ) : Type 0 where
+-- ---- a run that has handed out some of all its frames
+pub record Partly (frames rest : List ℕ) (before after : Cursor) : Type 0 where
   pub done : List ℕ
-  pub frames-are : frames ≡ done ++ rest
-  pub output_is : output ≡ done ++ drop count before
-  pub counted : count ≡ length done
+  pub frames_are : frames ≡ done ++ rest
+  pub stored : Stored before after done
 
-pub partly_none : (frames before : List ℕ) → Partly frames frames before before 0
-partly_none frames before = record { done = []; frames-are = refl; output_is = refl; counted = refl }
+pub partly-none : (frames : List ℕ) (c : Cursor) → length c.output.now < 2 ^ 63 → Partly frames frames c c
+partly-none frames c most = record { done = []; frames_are = refl; stored = stored-nothing c most }
 
-put-after : (done given before : List ℕ)
-    → take (length done) (done ++ drop (length done) before) ++ given ++ drop (length done + length given) (done ++ drop (length done) before)
-    ≡ (done ++ given) ++ drop (length done + length given) before
-put-after done given before = rw (take-append_seam, drop-append-add, drop-drop)
-
-module _ {frames rest before output : List ℕ} {count : ℕ} (P : Partly frames rest before output count) where
-  pub partly_more : (given later : List ℕ) {after : List ℕ} {next : ℕ} → rest ≡ given ++ later → PutAt count given output after next → Partly frames later before after next
-  partly_more given later e T =
+module _ {frames rest : List ℕ} {before between : Cursor} (P : Partly frames rest before between) where
+  pub partly-more : (given later : List ℕ) {after : Cursor} → rest ≡ given ++ later → Stored between after given → Partly frames later before after
+  partly-more given later e w =
       record {
         done = P.done ++ given;
-        frames-are = P.frames-are ∙ ap (λ (l : List ℕ). P.done ++ l) e ∙ sym (append_assoc P.done given later);
-        output_is = T.output_is ∙ rw (P.output_is, T.next_is, P.counted) (put-after P.done given before);
-        counted = T.next_is ∙ ap (λ (n : ℕ). n + length given) P.counted ∙ sym (length-append P.done given);
+        frames_are = P.frames_are ∙ ap (λ (l : List ℕ). P.done ++ l) e ∙ sym (append_assoc P.done given later);
+        stored = stored-both P.stored w;
       }
 
-  pub partly-all : rest ≡ [] → Handed frames before output count
-  partly-all e =
-      let all : frames ≡ P.done = P.frames-are ∙ ap (λ (l : List ℕ). P.done ++ l) e ∙ append-nil P.done in
-      record { counted = P.counted ∙ ap length (sym all); output_is = P.output_is ∙ ap (λ (l : List ℕ). l ++ drop count before) (sym all) }
+  pub partly-as : (later : List ℕ) → rest ≡ later → Partly frames later before between
+  partly-as later e = record { done = P.done; frames_are = P.frames_are ∙ ap (λ (l : List ℕ). P.done ++ l) e; stored = P.stored }
+
+  pub partly-all : rest ≡ [] → Stored before between frames
+  partly-all e = stored-as (sym (P.frames_are ∙ ap (λ (l : List ℕ). P.done ++ l) e ∙ append-nil P.done)) P.stored
 
 -- ---- what a run comes to
 module _ (calls : ℕ) (frames output : List ℕ) where
@@ -62,18 +50,21 @@ module _ (calls : ℕ) (frames output : List ℕ) where
     unfolding run_of
     run_short l = rw (le-ltb most_frames calls r, lt-ltb (length output) calls l)
 
-    pub run-given : {answer : ℤ} {after : List ℕ} {count : ℕ} → calls ≤ length output → Handed frames output after count → answer ≡ pos count
-        → outcome answer after ≡ run_of calls frames output
+    -- what was stored from the front on stands there, if each call handed out one frame at most
+    pub run-given : {before after : Cursor} → Stored before after frames → before.at ≡ 0 → before.output.now ≡ output → length frames ≤ calls → calls ≤ length output
+        → outcome (pos after.at) after.output.now ≡ run_of calls frames output
     unfolding run_of
-    run-given {count = count} o H e =
-        given_is count frames output (sym H.counted) e H.output_is ∙ rw (le-ltb most_frames calls r, le-ltb (length output) calls o)
+    run-given {before} {after} w front same most room =
+        let count : after.at ≡ length frames = let e : length before.output.now ≡ length output = ap length same in omega (arith, w.at_is, w.length_most) in
+        given_is (length frames) frames output refl (ap (λ (n : ℕ). pos n) count)
+        (stored-front w front (let e : length before.output.now ≡ length output = ap length same in omega arith) ∙ ap (λ (l : List ℕ). frames ++ drop (length frames) l) same)
+        ∙ rw (le-ltb most_frames calls r, le-ltb (length output) calls room)
 
 -- ---- with the card
-module _ {o : Outcome} (run : BurstOutcome) (output : List ℕ) where
-  pub under-accepted : o ≡ accepted → run ≡ under_card o run output
-  unfolding under_card
-  under-accepted e = rw e
+pub under-refused : {o : Outcome} {n at : ℕ} (run : BurstOutcome) (output : List ℕ) → o ≡ refused n at → refused_of n output ≡ under_card o run output
+unfolding under_card
+under-refused run output e = rw e
 
-  pub under-refused : {n at : ℕ} → o ≡ refused n at → refused_of n output ≡ under_card o run output
-  unfolding under_card
-  under-refused e = rw e
+pub under-accepted : {o : Outcome} (run : BurstOutcome) (output : List ℕ) → o ≡ accepted → run ≡ under_card o run output
+unfolding under_card
+under-accepted run output e = rw e

@@ -3,7 +3,9 @@
 -- the refusal). It departs from a burst in two points: a call that is refused hands out nothing and the run goes on, and the output has to have
 -- room for a frame from each call.
 -- Assumes nothing.
-use Rattle.std.specs.Prelude.{ℕ, ◌+◌, ◌≡◌, cond, List, ◌++◌, length, take, drop, ltb}
+use Rattle.std.specs.Prelude.{ℕ, ◌≡◌, cond, List, length, ltb}
+use Rattle.card.specs.Refusals.{number_of}
+use Rattle.card.specs.declared.Refusal.{Refusal}
 use Rattle.code.specs.Code.{most_frames}
 use Rattle.outcomes.specs.Outcome.{BurstOutcome, refused_of, given_of}
 
@@ -13,12 +15,7 @@ run_of calls frames output =
     cond (ltb most_frames calls) (refused_of 15 output)
     (cond (ltb (length output) calls) (refused_of 13 output) (given_of frames output))
 
--- the frames stand in the output from a place on, which is else as it was; the place after them
-pub record PutAt (at : ℕ) (frames output after : List ℕ) (next : ℕ) : Type 0 where
-  pub next_is : next ≡ at + length frames
-  pub output_is : after ≡ take at output ++ frames ++ drop next output
-
--- the frames stand at the front of the output, which is else as it was; so many
-pub record Handed (frames output after : List ℕ) (count : ℕ) : Type 0 where
-  pub counted : count ≡ length frames
-  pub output_is : after ≡ frames ++ drop count output
+-- so many calls with so much room for frames are refused, whatever they hand out
+abbrev pub RefusedBy : ℕ → ℕ → Refusal → Type 0
+RefusedBy calls room refusal =
+    (frames output : List ℕ) → length output ≡ room → run_of calls frames output ≡ refused_of (number_of refusal) output

@@ -1,15 +1,8 @@
--- Before turn t: what the calls so far handed out stands at the front of the output, and the rest is what the session hands out from here on.
-use Prim.Native.Nat.{◌-◌, ◌≤◌}
-use mathlib.Core.Path.{◌≡◌}
-use lib.ListN.{length}
+-- Before turn t: what the calls so far handed out is stored, and the rest is what the session hands out from here on.
 use Rattle.sessions.proofs.Running.{Partly}
 use Rattle.sessions.proofs.Sending.{rest_of}
 use Rattle.sessions.proofs.send.send_frames.Given as goal
 
 abbrev pub invariant-loop-t : goal.invariant-loop-t
 invariant-loop-t l =
-    (l.count ≤ l.t) × (l.t ≤ l.end) × (length l.output ≡ length l.initial.output)
-    × Partly (rest_of l.input l.initial.session.card.m l.initial.session 0) (rest_of l.input l.initial.session.card.m l.session l.t) l.initial.output l.output l.count
-
-abbrev pub decreases-loop-t : goal.decreases-loop-t
-decreases-loop-t l = l.end - l.t
+    Partly (rest_of l.input l.initial.session.card.m l.initial.session 0) (rest_of l.input l.initial.session.card.m l.session l.t) l.initial.frames l.frames
