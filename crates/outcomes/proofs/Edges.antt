@@ -2,6 +2,7 @@
 use Prim.Native.Nat.{ℕ, suc, ◌+◌, ◌-◌, ◌^◌}
 use mathlib.Core.Path.{◌≡◌, refl}
 use mathlib.Core.List.{List}
+use native.Mathlib.Omega.{arith}
 use lib.ListN.{length, get_or}
 use Rattle.bits.specs.Sums.{sum_below, up_to}
 use Rattle.bits.proofs.Sums.{all-at_most}
@@ -15,7 +16,7 @@ use Rattle.outcomes.specs.Claims.{SentAs}
 -- a whole stream of information frames within their streams is sent as these if it is correctable
 sent-as : (c : Card) (info input : List ℕ) → sum_below (length info) (λ u. suc (get_or info u 0) - 2 ^ c.k) ≡ 0 → length input ≡ length info + c.m
     → Correctable c info input → SentAs c info input
-sent-as c info input small whole few = record { information = all-at_most _ _ _ small; whole = whole; correctable = few }
+sent-as c info input small whole few = record { information = all-at_most _ _ _ (omega arith); whole = whole; correctable = few }
 
 pub edges : Edges SentAs
 unfolding sum_below up_to
