@@ -1,22 +1,22 @@
 -- Votes: the ones of words added up by exclusive or, checks as the digits of a word, and registers that decide as the rule does.
 use Prim.Native.Nat.{ℕ, suc, ◌+◌, ◌-◌, ◌*◌, ◌/◌, ◌%◌, ◌^◌, ◌≤◌, ◌<◌, min, zero-le}
-use mathlib.Core.Bool.{cond}
+use mathlib.Core.Bool.{Bool, true, false, cond}
 use mathlib.Core.Path.{◌≡◌, sym, ap, ap₂, ◌∙◌}
 use mathlib.Core.Logic.{⊎_elim}
 use mathlib.Core.List.{List, []}
 use native.Mathlib.Nat.{mod-lt, mod-eq_of_lt, div-eq_of_lt, zero-lt-suc, lt_of_lt_of_le, lt_of_le_of_lt, mul-le-mul, mul_comm, mul-zero, zero-mul}
 use native.Mathlib.Omega.{arith}
 use lib.ListN.{length, get_or}
-use lib.Bits.{bit_and, bit_xor, and_le_l, xor_lt}
+use lib.Bits.{bit_and, and_le_l}
 use lib.Dec.{ltb}
 use lib.Count.{ones, count_leading_zeros, leading_length}
 use lib.Pow.{pow_pos, pow_mono}
 use borrow.Author.Tests.{le-ltb}
 use Rattle.bits.specs.Sums.{sum_below}
 use Rattle.bits.specs.Digits.{bit, dot, from_digits, shift_up}
-use Rattle.bits.proofs.Sums.{sum-mod, sum-cong, sum-add, sum_more, sum-none, sum_same, sum-cut, sum-cut-within}
+use Rattle.bits.proofs.Sums.{sum-cong, sum_more, sum-none, sum_same, sum-cut, sum-cut-within}
 use Rattle.bits.proofs.Cases.{cond-le, le-or-lt}
-use Rattle.bits.proofs.Digits.{bit_le, bit-and, bit-xor, bit-mod, bit_high, bit-of-zero, bit-from_digits, halved-within, halved-whole, ones-sum, ones-made, from_digits-lt, from_digits-same, from_digits-first, from_digits-bits}
+use Rattle.bits.proofs.Digits.{bit_le, bit-and, bit-mod, bit_high, bit-of-zero, bit-from_digits, halved-whole, ones-sum, ones-made, from_digits-lt, from_digits-same, from_digits-first, from_digits-bits}
 use Rattle.bits.proofs.Words.{placed-fits, placed-more}
 use Rattle.code.specs.Checks.{count, check_mask}
 use Rattle.code.specs.Limits.{most_checks, check_words, check_start}
@@ -33,49 +33,31 @@ pub ones-of-common : (x y : ℕ) {z : ℕ} → z ≡ bit_and x y → z < 2 ^ 32 
 unfolding dot
 ones-of-common x y {z} e h = ones-sum 32 z h ∙ sum-cong 32 (λ a. ap (λ n. bit n a) e ∙ bit-and x y a)
 
--- one word more, added up by exclusive or
-pub xor_ones : (s z : ℕ) → s < 2 ^ 32 → z < 2 ^ 32 → ones (bit_xor s z) % 2 ≡ (ones s + ones z) % 2
-xor_ones s z hs hz =
-    ap (λ n. n % 2) (ones-sum 32 (bit_xor s z) (xor_lt 32 s z hs hz))
-    ∙ sum-mod 32 (λ a. bit (bit_xor s z) a) (λ a. bit s a + bit z a) (λ a l. omega (arith, bit-xor s z a))
-    ∙ ap (λ n. n % 2) (sum-add 32 (λ a. bit s a) (λ a. bit z a) ∙ ap₂ ◌+◌ (sym (ones-sum 32 s hs)) (sym (ones-sum 32 z hz)))
-
-pub parity-more : (f : ℕ → ℕ) (j s z : ℕ) → s < 2 ^ 32 → z < 2 ^ 32 → ones s % 2 ≡ sum_below j f % 2 → ones z ≡ f j
-    → ones (bit_xor s z) % 2 ≡ sum_below (j + 1) f % 2
-parity-more f j s z hs hz e q = xor_ones s z hs hz ∙ omega (arith, e, q, sum_more j f)
-
 pub check-lt : (checks : List ℕ) (at : ℕ) (words : List ℕ) (p : ℕ) → check_by checks at words p < 2
 unfolding check_by
 check-lt checks at words p = mod-lt _ (zero-lt-suc 1)
 
 -- ---- digits that are picked by those of a word, one after the other
 
--- while a digit is left
-pub left_below : (all q : ℕ) {rest : ℕ} → rest ≡ all % 2 ^ most_checks / 2 ^ q → 0 < rest → q < most_checks
-left_below all q e l = halved-within (all % 2 ^ most_checks) most_checks q (mod-lt all (pow_pos most_checks)) (omega arith)
-
 module _ (all : ℕ) (d : ℕ → ℕ) (small : (q : ℕ) → d q < 2) where
   pub picked-lt : (q : ℕ) → bit all q * d q < 2
   picked-lt q = let l : d q ≤ 1 = omega (arith, small q) in omega (arith, mul-le-mul (bit_le all q) l)
 
-  -- one digit more, of those that are left
-  module _ (q : ℕ) (lq : q < most_checks) {rest x word : ℕ} (left : rest ≡ all % 2 ^ most_checks / 2 ^ q) (is : x ≡ d q)
-      (so_far : word ≡ from_digits q (λ r. bit all r * d r)) where
-    digit-is : rest % 2 ≡ bit all q
-    unfolding bit
-    digit-is = ap (λ n. n % 2) left ∙ bit-mod all most_checks q lq
-
-    digit-small : rest % 2 * x < 2
-    digit-small = rw (digit-is, is) (picked-lt q)
-
+  -- one digit more
+  module _ (q : ℕ) {word : ℕ} (so_far : word ≡ from_digits q (λ r. bit all r * d r)) where
     word_small : word < 2 ^ q
     word_small = rw so_far (from_digits-lt q _ (λ r l. picked-lt r))
 
-    pub picked_fits : word + shift_up (rest % 2 * x) q < 2 ^ 32
-    picked_fits = placed-fits word (rest % 2 * x) q word_small digit-small (omega arith)
+    pub picked_fits : q < most_checks → word + shift_up 1 q < 2 ^ 32
+    picked_fits l = placed-fits word 1 q word_small (omega arith) (omega arith)
 
-    pub picked_more : word + shift_up (rest % 2 * x) q ≡ from_digits (q + 1) (λ r. bit all r * d r)
-    picked_more = placed-more word (rest % 2 * x) q word_small digit-small (omega arith) (λ r. bit all r * d r) so_far (ap₂ ◌*◌ digit-is is)
+    pub picked_more : q < most_checks → bit all q ≡ 1 → d q ≡ 1 → word + shift_up 1 q ≡ from_digits (q + 1) (λ r. bit all r * d r)
+    picked_more l e f =
+        placed-more word 1 q word_small (omega arith) (omega arith) (λ r. bit all r * d r) so_far (sym (ap₂ ◌*◌ e f))
+
+    pub picked_none : bit all q * d q ≡ 0 → word ≡ from_digits (q + 1) (λ r. bit all r * d r)
+    unfolding from_digits
+    picked_none z = so_far ∙ omega (arith, sum_more q (λ r. bit all r * d r * 2 ^ r), ap (λ x. x * 2 ^ q) z)
 
   -- the end: none is left
   pub picked-end : (q : ℕ) {word : ℕ} → q ≤ most_checks → all % 2 ^ most_checks / 2 ^ q ≤ 0 → word ≡ from_digits q (λ r. bit all r * d r)
@@ -153,6 +135,12 @@ pub whole : (checks words : List ℕ) (x : ℕ) → check_words ≤ length check
 unfolding if_whole
 whole checks words x h l = rw (le-ltb (length checks) check_words h, le-ltb (length words) 8 l)
 
+pub when-whole : (checks words : List ℕ) {b : Bool} → ((x : ℕ) → if_whole checks words x ≡ cond b x 0) → b ≡ true → (x : ℕ) → x ≡ if_whole checks words x
+when-whole checks words is e x = sym (is x ∙ ap (λ b. cond b x 0) e)
+
+pub not-whole : (checks words : List ℕ) {b : Bool} → ((x : ℕ) → if_whole checks words x ≡ cond b x 0) → b ≡ false → (x : ℕ) → 0 ≡ if_whole checks words x
+not-whole checks words is e x = sym (is x ∙ ap (λ b. cond b x 0) e)
+
 pub whole_le : (checks words : List ℕ) (x n : ℕ) → x ≤ n → if_whole checks words x ≤ n
 unfolding if_whole
 whole_le checks words x n h = cond-le (ltb (length checks) check_words) 0 _ n zero-le (cond-le (ltb (length words) 8) 0 x n zero-le h)
@@ -186,19 +174,6 @@ module _ (voting counts checks syndromes : List ℕ) (p : ℕ) where
 
   pub errors_lt : (i : ℕ) → from_digits i error_of < 2 ^ i
   errors_lt i = from_digits-lt i error_of (λ a l. error-lt a)
-
-  -- one stream more
-  module _ (i : ℕ) {e d : ℕ} (h : i < 32) (so_far : e ≡ from_digits i error_of) where
-    pub error-placed : d ≡ error_of i → (e + shift_up d i < 2 ^ 32) × (e + shift_up d i ≡ from_digits (i + 1) error_of)
-    error-placed is =
-        let le : e < 2 ^ i = rw so_far (errors_lt i) in
-        let ld : d < 2 = rw is (error-lt i) in
-        (placed-fits e d i le ld h, placed-more e d i le ld h error_of so_far is)
-
-    pub errors-more : {n one : ℕ} → one ≡ ones_by checks i (get_or voting i 0) syndromes p → n ≡ get_or counts i 0 → d ≡ cond (ltb n (2 * ones one)) 1 0
-        → (e + shift_up d i < 2 ^ 32) × (e + shift_up d i ≡ from_digits (i + 1) error_of)
-    unfolding majority_by
-    errors-more eo en ed = error-placed (ed ∙ ap₂ (λ n o. cond (ltb n (2 * ones o)) 1 0) en eo)
 
 -- four streams at most are decided
 pub decide-lt : (voting counts checks syndromes : List ℕ) (k p : ℕ) → decide_by voting counts checks syndromes k p < 16

@@ -3,20 +3,20 @@
 use Prim.Native.Nat.{ℕ, suc, ◌+◌, ◌-◌, ◌*◌, ◌^◌, ◌≤◌, ◌<◌, min}
 use mathlib.Core.Path.{◌≡◌, sym, ap, ap₂, ◌∙◌}
 use mathlib.Core.Logic.{⊎_elim}
-use mathlib.Core.List.{List, ◌++◌}
+use mathlib.Core.List.{List}
 use native.Mathlib.Nat.{one-mul, mul-one, zero-mul}
 use native.Mathlib.Omega.{arith}
 use lib.ListN.{length, get_or, take, drop, replicate, length-take, get_or-eq_default}
-use lib.Seq.{get_or-take, get_or-drop, ext_get_or}
+use lib.Seq.{get_or-take, get_or-drop}
 use lib.Count.{ones}
 use lib.Pow.{pow_pos}
 use borrow.Author.Tests.{eq-eqb, ne_eqb}
-use Rattle.bits.specs.Sums.{sum_below, up_to}
+use Rattle.bits.specs.Sums.{sum_below}
 use Rattle.bits.specs.Digits.{bit, from_digits}
 use Rattle.bits.proofs.Cases.{le-or-lt, same_or_not}
 use Rattle.bits.proofs.Sums.{sum_same, sum-cut, sum-cong, sum-const}
 use Rattle.bits.proofs.Digits.{all_ones, ones-made, bit-from_digits, bit_high, from_digits-lt, from_digits-same}
-use Rattle.bits.proofs.Lists.{up_to-length, up_to-at, part_length, part_at, part-rest, zeros-at}
+use Rattle.bits.proofs.Lists.{up_to-at, part_at}
 use Rattle.code.specs.Code.{digit}
 use Rattle.code.specs.Checks.{count, check_mask, besides}
 use Rattle.code.specs.Judging.{clashes}
@@ -72,36 +72,6 @@ all_voting-at counts k i l =
 
 ones-of-all : (n : ℕ) → ones (from_digits n (λ q. 1)) ≡ n
 ones-of-all n = ones-made n (λ q. 1) (λ q l. omega arith) ∙ sum-const n 1 ∙ mul-one n
-
--- the numbers of words that a function gives
-pub counts_of : (f : ℕ → ℕ) → record { words = up_to 4 f; counts = up_to 4 (λ i. ones (f i)) } ≡ voters_of (up_to 4 f)
-counts_of f =
-    ap (λ (n : List ℕ). record { words = up_to 4 f; counts = n })
-    (ext_get_or 0 _ _ (up_to-length 4 _ ∙ sym (up_to-length 4 _))
-    (λ i l.
-    let h : i < 4 = omega (arith, l, up_to-length 4 (λ i. ones (f i))) in
-    up_to-at 4 _ i h ∙ sym (up_to-at 4 _ i h ∙ ap ones (up_to-at 4 f i h))))
-
--- beyond the streams there is none
-all-voting-out : (counts : List ℕ) (k i : ℕ) → min k 4 ≤ i → get_or (all_voting counts k) i 0 ≡ 0
-unfolding all_voting
-all-voting-out counts k i l = part-rest (λ i. 2 ^ min (get_or counts i 0) most_checks - 1) (replicate 4 0) (min k 4) i l ∙ zeros-at 4 i
-
--- how many vote, where all do
-pub all-counts : (counts : List ℕ) (k : ℕ)
-    → up_to (min k 4) (λ i. min (get_or counts i 0) most_checks) ++ drop (min k 4) (replicate 4 0) ≡ up_to 4 (λ i. ones (get_or (all_voting counts k) i 0))
-all-counts counts k =
-    ext_get_or 0 _ _ (part_length held (replicate 4 0) (min k 4) (omega arith) ∙ sym (up_to-length 4 _))
-    (λ i l. ⊎_elim (out i) (within i) (le-or-lt (min k 4) i) ∙ sym (up_to-at 4 _ i (omega (arith, l, part_length held (replicate 4 0) (min k 4) (omega arith)))))
-  where
-    held : ℕ → ℕ
-    held i = min (get_or counts i 0) most_checks
-
-    within : (i : ℕ) → i < min k 4 → get_or (up_to (min k 4) held ++ drop (min k 4) (replicate 4 0)) i 0 ≡ ones (get_or (all_voting counts k) i 0)
-    within i h = part_at held (replicate 4 0) (min k 4) i h ∙ sym (ap ones (all_voting-at counts k i h) ∙ ones-of-all (min (get_or counts i 0) most_checks))
-
-    out : (i : ℕ) → min k 4 ≤ i → get_or (up_to (min k 4) held ++ drop (min k 4) (replicate 4 0)) i 0 ≡ ones (get_or (all_voting counts k) i 0)
-    out i h = unfold ones in (part-rest held (replicate 4 0) (min k 4) i h ∙ zeros-at 4 i ∙ sym (ap ones (all-voting-out counts k i h)))
 
 -- where all vote, the decision of stream i
 pub all-error : (counts checks syndromes : List ℕ) (k p i : ℕ) → i < min k 4 →

@@ -1,5 +1,4 @@
 -- The loop's word has the checks that it passed, the last ones, as its digits.
-use Prim.Native.Nat.{◌≤◌}
 use mathlib.Core.Path.{◌≡◌}
 use Rattle.code.specs.Limits.{check_start}
 use Rattle.vote.specs.Voting.{check_by}
@@ -7,8 +6,4 @@ use Rattle.vote.proofs.Voting.{digits_from}
 use Rattle.vote.proofs.all_of.Given as goal
 
 abbrev pub invariant-loop-q : goal.invariant-loop-q
-invariant-loop-q l =
-    (l.q ≤ l.count) × (l.word ≡ digits_from (λ r. check_by l.checks (check_start l.i r) l.words l.p) l.count l.q)
-
-abbrev pub decreases-loop-q : goal.decreases-loop-q
-decreases-loop-q l = l.q
+invariant-loop-q l = l.word ≡ digits_from (λ r. check_by l.checks (check_start l.i r) l.words l.p) l.count l.q

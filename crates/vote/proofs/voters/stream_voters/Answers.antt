@@ -1,60 +1,52 @@
-use Prim.Native.Nat.{◌%◌, ◌^◌, ◌≤◌, ◌<◌}
-use native.Mathlib.Nat.{mul-le-mul}
+use Prim.Native.Nat.{◌*◌, ◌+◌}
+use mathlib.Core.Bool.{cond}
+use mathlib.Core.Path.{◌≡◌, refl, sym, ap, ◌∙◌}
+use native.Mathlib.Nat.{mul-zero, zero-mul}
 use native.Mathlib.Omega.{arith}
-use borrow.Author.Rules.{rules}
 use Rattle.bits.specs.Sums.{sum_below}
-use Rattle.bits.specs.Digits.{from_digits, shift_up}
-use Rattle.bits.proofs.Digits.{halved-more}
+use Rattle.bits.specs.Digits.{bit, from_digits, shift_up}
+use Rattle.bits.proofs.Digits.{bit_le}
+use Rattle.bits.proofs.Cases.{digit-zero}
 use Rattle.code.specs.Limits.{most_checks}
 use Rattle.vote.specs.Voters.{voting_by, stream_voters_by}
-use Rattle.vote.proofs.Voting.{left_below, picked_fits, picked_more, picked-end}
+use Rattle.vote.proofs.Voting.{picked_fits, picked_more, picked_none}
 use Rattle.vote.proofs.WhoVotes.{voting-lt}
 use Rattle.vote.proofs.voters.stream_voters.Goals as goal
+use Rattle.vote.proofs.voters.stream_voters.Goals.{then-digit-eq1+then-check_votes, else-digit-eq1, else-digit-eq1-via-then-digit-eq1+else-check_votes, else-digit-eq1-via-else-digit-eq1}
 
-pub loop-rest-init : goal.loop-rest-init
+pub loop-q-init : goal.loop-q-init
 unfolding from_digits sum_below
-loop-rest-init c = search rules
-
-pub check_votes-requires : goal.check_votes-requires
-check_votes-requires c =
-    let l = c.loop-rest in
-    let q-most = left_below c.args.all l.q l.invariant.1 c.loop-rest-test.true in
-    search rules
-
-pub overflow_mul-word : goal.overflow_mul-word
-overflow_mul-word c =
-    let l : c.loop-rest.rest % 2 ≤ 1 = omega arith in
-    let x : c.check_votes.result < 2 = rw c.check_votes.ensures (voting-lt _ _ _ _ _ _ _) in
-    let d : c.check_votes.result ≤ 1 = omega arith in
-    omega (arith, mul-le-mul l d)
+loop-q-init c = refl
 
 pub overflow_add-word : goal.overflow_add-word
 unfolding shift_up
-overflow_add-word c =
-    let l = c.loop-rest in
-    let a = c.args in
-    let q-most = left_below a.all l.q l.invariant.1 c.loop-rest-test.true in
-    record {
-      fits = picked_fits a.all (voting_by a.generators.now a.checks.now a.erased.now a.k a.p a.i) (λ r. voting-lt _ _ _ _ _ _ _) l.q q-most
-          l.invariant.1 c.check_votes.ensures l.invariant.2;
-    }
+overflow_add-word c = record { fits = picked_fits c.args.all _ (λ r. voting-lt _ _ _ _ _ _ _) c.loop-q.q c.loop-q.invariant (omega arith) }
 
-pub loop-rest-preserved : goal.loop-rest-preserved
+pub loop-q-preserved : goal.loop-q-preserved
 unfolding shift_up
-loop-rest-preserved c =
-    let l = c.loop-rest in
+loop-q-preserved c =
+    let l = c.loop-q in
     let a = c.args in
-    let q-most = left_below a.all l.q l.invariant.1 c.loop-rest-test.true in (
-      omega arith,
-      halved-more (a.all % 2 ^ most_checks) l.q l.invariant.1,
-      picked_more a.all (voting_by a.generators.now a.checks.now a.erased.now a.k a.p a.i) (λ r. voting-lt _ _ _ _ _ _ _) l.q q-most
-          l.invariant.1 c.check_votes.ensures l.invariant.2,
-    )
+    let d = voting_by a.generators.now a.checks.now a.erased.now a.sizes.k a.sizes.p a.i in
+    let none : bit a.all l.q * d l.q ≡ 0 → l.word ≡ from_digits (l.q + 1) (λ r. bit a.all r * d r) = picked_none a.all d (λ r. voting-lt _ _ _ _ _ _ _) l.q l.invariant in
+    elim c.if-digit-eq1.branch [
+      | then-digit-eq1+then-check_votes w ↦
+          rw w.word-is
+          (picked_more a.all d (λ r. voting-lt _ _ _ _ _ _ _) l.q l.invariant (omega arith) (sym c.digit.ensures ∙ w.if-digit-eq1.true)
+          (sym w.check_votes.ensures ∙ ap (λ b. cond b 1 0) w.if-check_votes.true))
+      | else-digit-eq1 w ↦
+          rw w.word-is
+          (elim w.else-digit-eq1.branch [
+            | else-digit-eq1-via-then-digit-eq1+else-check_votes v ↦
+                none (ap (λ x. bit a.all l.q * x) (sym v.check_votes.ensures ∙ ap (λ b. cond b 1 0) v.if-check_votes.false) ∙ mul-zero (bit a.all l.q))
+            | else-digit-eq1-via-else-digit-eq1 v ↦
+                none (ap (λ x. x * d l.q) (digit-zero (bit_le a.all l.q) (λ e. v.if-digit-eq1.false (c.digit.ensures ∙ e))) ∙ zero-mul (d l.q))
+          ])
+    ]
 
 pub returns : goal.returns
 unfolding stream_voters_by
 returns c =
-    let l = c.loop-rest in
     let a = c.args in
-    picked-end a.all (voting_by a.generators.now a.checks.now a.erased.now a.k a.p a.i) (λ r. voting-lt _ _ _ _ _ _ _) l.q l.invariant.0
-    (omega (arith, l.invariant.1, c.loop-rest-test.false)) l.invariant.2
+    let n : c.loop-q.q ≡ most_checks = omega arith in
+    c.loop-q.invariant ∙ ap (λ n. from_digits n (λ r. bit a.all r * voting_by a.generators.now a.checks.now a.erased.now a.sizes.k a.sizes.p a.i r)) n

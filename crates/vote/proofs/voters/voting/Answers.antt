@@ -1,43 +1,40 @@
 use Prim.Native.Nat.{ℕ}
-use mathlib.Core.Path.{refl, ap, ap₂, ◌∙◌}
+use mathlib.Core.Path.{◌≡◌, refl, ap, ap₂, ◌∙◌}
 use mathlib.Core.List.{List}
 use native.Mathlib.Omega.{arith}
-use lib.Count.{ones}
-use lib.ListN.{get_or, length-set}
+use lib.ListN.{length, get_or}
 use borrow.Author.Tests.{eq-eqb, ne_eqb}
+use borrow.Author.Rules.{rules}
 use Rattle.bits.specs.Sums.{up_to}
-use Rattle.bits.proofs.Lists.{fill_step, fill_end}
-use Rattle.vote.specs.Voters.{stream_voters_by, voters_by, voters_of}
-use Rattle.vote.specs.declared.voters.Voters.{Voters}
-use Rattle.vote.proofs.WhoVotes.{counts_of}
+use Rattle.bits.proofs.Lists.{part_step, part-next, part-all}
+use Rattle.vote.specs.Voters.{stream_voters_by, voters_by}
 use Rattle.vote.proofs.voters.voting.Goals as goal
-
-pub returns-then-erased-eq0 : goal.returns-then-erased-eq0
-unfolding voters_by
-returns-then-erased-eq0 c = rw (eq-eqb _ 0 c.if-erased-eq0.true) c.all_voting-all.ensures
+use Rattle.vote.proofs.voters.voting.Goals.{then-erased-ne0+else-loop-i-test, else-erased-ne0}
 
 pub loop-i-init : goal.loop-i-init
 unfolding up_to
-loop-i-init c = (omega arith, refl, refl, refl, refl)
+loop-i-init c = refl
 
 pub loop-i-preserved : goal.loop-i-preserved
 loop-i-preserved c =
-    let v = c.loop-i.invariant in
-    let some = c.stream_voters-some.ensures in (
-      omega arith,
-      simp length-set v.1,
-      fill_step _ _ _ (omega arith) v.2 some,
-      simp length-set v.3,
-      fill_step _ _ _ (omega arith) v.4 (ap ones some),
-    )
+    let l = c.loop-i in
+    let a = c.args in
+    part_step _ _ _ _ _ (omega arith) l.invariant
+    (c.stream_voters.ensures
+    ∙ ap (stream_voters_by a.generators.now a.checks.now a.erased.now.registers a.sizes.k a.sizes.p l.i) (part-next _ _ _ l.invariant))
 
 pub returns : goal.returns
 unfolding voters_by
 returns c =
-    let v = c.loop-i.invariant in
     let a = c.args in
-    let every = ap (λ (x : Voters). x.words) c.all_voting-all.ensures in
-    let some : List ℕ → ℕ → ℕ = λ all b. stream_voters_by a.generators.now a.checks.now a.erased.now.registers a.sizes.k a.sizes.p b (get_or all b 0) in
-    rw (ne_eqb _ 0 c.if-erased-eq0.false)
-    (ap₂ (λ (w n : List ℕ). record { words = w; counts = n }) (fill_end _ _ _ _ v.1 v.0 c.loop-i-test.false v.2) (fill_end _ _ _ _ v.3 v.0 c.loop-i-test.false v.4)
-    ∙ counts_of (some c.all_voting-all.result.words) ∙ ap (λ (all : List ℕ). voters_of (up_to 4 (some all))) every)
+    let some : List ℕ → ℕ → ℕ = λ all i. stream_voters_by a.generators.now a.checks.now a.erased.now.registers a.sizes.k a.sizes.p i (get_or all i 0) in
+    let four : length c.all_checks-words.result ≡ 4 = omega arith in
+    let words-are : c.if-erased-ne0.words ≡ voters_by a.generators.now a.counts.now a.checks.now a.erased.now.registers a.erased.now.any a.sizes.k a.sizes.p =
+    elim c.if-erased-ne0.branch [
+      | then-erased-ne0+else-loop-i-test w ↦
+          rw (w.words-is, ne_eqb _ 0 w.if-erased-ne0.true)
+          (part-all (some c.all_checks-words.result) _ w.loop-i.invariant (omega arith) (omega arith)
+          ∙ ap₂ (λ (n : ℕ) (all : List ℕ). up_to n (some all)) four c.all_checks-words.ensures)
+      | else-erased-ne0 w ↦ rw (w.words-is, eq-eqb _ 0 w.if-erased-ne0.false) c.all_checks-words.ensures
+    ] in
+    rw (← words-are) (search rules)
