@@ -6,6 +6,7 @@ use mathlib.Core.Logic.{◌⊎◌, inl, inr}
 use native.Mathlib.Nat.{eq-or-lt_of_le}
 use native.Mathlib.Omega.{arith}
 use lib.Dec.{leb, eqb}
+use mir.Val.{bool_byte}
 use borrow.Author.Tests.{leb-true, leb-false, eqb-true, eqb-false}
 
 pub le-or-lt : (a b : ℕ) → (a ≤ b) ⊎ (b < a)
@@ -38,3 +39,8 @@ picked false e = inr (refl, e)
 pub cond-le : (b : Bool) (x y n : ℕ) → x ≤ n → y ≤ n → cond b x y ≤ n
 cond-le true x y n l r = l
 cond-le false x y n l r = r
+
+-- a yes or no as a digit
+pub bool-digit : (b : Bool) → bool_byte b ≡ cond b 1 0
+bool-digit true = refl
+bool-digit false = refl

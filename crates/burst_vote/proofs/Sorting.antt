@@ -1,20 +1,21 @@
 -- The checks on one syndrome register sorted: a union of single syndromes votes by its ones, and sorted checks decide as the vote on registers does.
 use Prim.Native.Nat.{ℕ, zero, suc, ◌+◌, ◌*◌, ◌%◌, ◌^◌, ◌≤◌, ◌<◌, min, max}
-use mathlib.Core.Bool.{cond}
+use mathlib.Core.Bool.{Bool, cond}
 use mathlib.Core.Path.{◌≡◌, refl, sym, ap, ap₂, ◌∙◌}
 use mathlib.Core.List.{List, ◌∷◌}
 use mathlib.Core.Logic.{⊎_elim}
-use native.Mathlib.Nat.{add-zero, mul-le-mul_left}
+use native.Mathlib.Nat.{add-zero, mul-le-mul, mul-le-mul_left}
 use native.Mathlib.Omega.{arith}
 use lib.ListN.{length, get_or, set, replicate, length-set}
 use lib.Seq.{get_or-set_same, get_or-set_other}
 use lib.Bits.{bit_and, bit_or}
 use lib.Count.{ones}
 use lib.Dec.{ltb}
+use mir.Val.{bool_byte}
 use Rattle.bits.specs.Sums.{sum_below}
 use Rattle.bits.specs.Digits.{bit, dot, from_digits, shift_up}
-use Rattle.bits.proofs.Cases.{last-or-below, cond-le}
-use Rattle.bits.proofs.Sums.{sum_same, sum-cong, sum-add, sum_more, sum_mono}
+use Rattle.bits.proofs.Cases.{last-or-below, cond-le, bool-digit}
+use Rattle.bits.proofs.Sums.{sum_same, sum-cong, sum-add, sum_more, sum_mono, sum-const}
 use Rattle.bits.proofs.Digits.{bit_le, bit-and, bit-or, bit-of-zero, ones-sum, from_digits-lt, from_digits-same}
 use Rattle.bits.proofs.Words.{placed-fits, placed-more}
 use Rattle.code.specs.Limits.{most_checks, check_start}
@@ -39,6 +40,11 @@ dot-of-union x y word e =
 pub dot-le-ones : (x word : ℕ) → x < 2 ^ 32 → dot x word ≤ ones x
 unfolding dot
 dot-le-ones x word h = rw (ones-sum 32 x h) (sum_mono 32 _ _ (λ a l. omega (arith, mul-le-mul_left (bit x a) (bit_le word a))))
+
+-- nor than 32
+pub dot-le-32 : (x word : ℕ) → dot x word ≤ 32
+unfolding dot
+dot-le-32 x word = omega (arith, sum_mono 32 (λ a. bit x a * bit word a) (λ a. 1) (λ a l. omega (arith, mul-le-mul (bit_le x a) (bit_le word a))), sum-const 32 1)
 
 -- ---- one register
 
@@ -127,11 +133,9 @@ module _ (counts alone several left : List ℕ) (word : ℕ) where
   abbrev pub error_sorted : ℕ → ℕ
   error_sorted i = cond (ltb (min (get_or counts i 0) most_checks) (2 * votes_sorted alone several left i word)) 1 0
 
-  pub error-sorted : (i : ℕ) {n r v o : ℕ} → n ≡ min (get_or counts i 0) most_checks → r ≡ cond (ltb n (2 * v)) 1 0
-      → v ≡ dot (get_or alone i 0) word + parities several (several_start i) o word → o ≡ min (get_or left i 0) most_checks → r ≡ error_sorted i
-  unfolding votes_sorted
-  error-sorted i z e q w =
-      e ∙ ap₂ (λ n v. cond (ltb n (2 * v)) 1 0) z (q ∙ ap (λ o. dot (get_or alone i 0) word + parities several (several_start i) o word) w)
+  pub error-sorted : (i : ℕ) {n v : ℕ} {more : Bool} {d : ℕ} → n ≡ min (get_or counts i 0) most_checks → v ≡ votes_sorted alone several left i word
+      → more ≡ ltb n (2 * v) → d ≡ bool_byte more → d ≡ error_sorted i
+  error-sorted i en ev em ed = ed ∙ bool-digit _ ∙ ap (λ b. cond b 1 0) (em ∙ ap₂ (λ n v. ltb n (2 * v)) en ev)
 
   error-lt : (i : ℕ) → error_sorted i < 2
   error-lt i = let l = cond-le (ltb (min (get_or counts i 0) most_checks) (2 * votes_sorted alone several left i word)) 1 0 1 (omega arith) (omega arith) in omega arith
@@ -160,8 +164,8 @@ votes-alone alone several left word z =
 first-digit : {x y : ℕ} → x ≡ y → x ≡ 0 + y * 1
 first-digit e = omega arith
 
-pub alone-decides : (counts alone several left : List ℕ) (word : ℕ) {n v r : ℕ} → get_or left 0 0 ≡ 0 → n ≡ min (get_or counts 0 0) most_checks → v ≡ dot (get_or alone 0 0) word
-    → r ≡ cond (ltb n (2 * v)) 1 0 → r ≡ decide_sorted counts alone several left word 1
+pub alone-decides : (counts alone several left : List ℕ) (word : ℕ) {n v : ℕ} {more : Bool} {r : ℕ} → get_or left 0 0 ≡ 0 → n ≡ min (get_or counts 0 0) most_checks
+    → v ≡ dot (get_or alone 0 0) word → more ≡ ltb n (2 * v) → r ≡ bool_byte more → r ≡ decide_sorted counts alone several left word 1
 unfolding decide_sorted from_digits sum_below
-alone-decides counts alone several left word z en ev er =
-    first-digit (er ∙ ap₂ (λ a b. cond (ltb a (2 * b)) 1 0) en (ev ∙ sym (votes-alone alone several left word z)))
+alone-decides counts alone several left word z en ev em er =
+    first-digit (error-sorted counts alone several left word 0 en (ev ∙ sym (votes-alone alone several left word z)) em er)

@@ -2,13 +2,13 @@
 // count of ones: so the checks are sorted once, and a vote works out the parities of the others alone.
 #![tactic(auto)]
 
-ghost use Rattle.std.specs.Prelude.{◌≡◌, true, ◌+◌, ◌%◌, ◌<◌, ◌≤◌, min, length, get_or};
+ghost use Rattle.std.specs.Prelude.{◌≡◌, true, ◌<◌, ◌≤◌, length};
 ghost use Rattle.bits.specs.Digits.{dot};
 ghost use Rattle.code.specs.Limits.{most_checks};
-ghost use Rattle.burst_vote.specs.Sorted.{several_words, several_start, Joins, parities, decide_sorted, Sorted, SortedStream};
+ghost use Rattle.burst_vote.specs.Sorted.{several_words, Joins, votes_sorted, decide_sorted, Sorted, SortedStream};
 
 use code::{CHECK_STRIDE, CHECK_WORDS, MOST_CHECKS};
-use vote::more_than_half;
+use vote::{count_of, more_than_half};
 
 // The checks of several syndromes of all four streams take so many words.
 pub const SEVERAL_WORDS: usize = MOST_CHECKS * 4;
@@ -32,11 +32,7 @@ struct Stream {
 fn joins(mask: u32, alone: u32) -> bool
     ensures { result ≡ true → Joins mask alone }
 {
-    if mask & alone == 0 {
-        u32::count_ones(mask) < 2
-    } else {
-        false
-    }
+    mask & alone == 0 && mask.count_ones() < 2
 }
 
 // The checks of stream i, sorted. A check whose syndrome the union has already counts a second time, so it goes to the others.
@@ -49,44 +45,31 @@ fn sorted_stream(
     requires { (i < 4) × (count ≤ most_checks) × (length several.old ≡ several_words) }
     ensures { SortedStream checks.now i count several.old several.new result.alone result.left }
 {
-    let mut alone: u32 = 0;
+    let mut alone = 0;
     let mut left = 0;
-    let mut q = 0;
-    while q < count {
+    for q in 0..count {
         let mask = checks[i * CHECK_STRIDE + q * 8];
         if joins(mask, alone) {
-            alone = alone | mask;
+            alone |= mask;
         } else {
             several[i * MOST_CHECKS + left] = mask;
             left += 1;
         }
-        q += 1;
     }
     Stream { alone, left }
-}
-
-// How many checks stream i has, of those that the tables have.
-fn count_of(counts: &[u32; 4], i: usize) -> usize
-    requires { i < 4 }
-    ensures { result ≡ min (get_or counts.now i 0) most_checks }
-{
-    bits::at_most(bits::index(counts[i]), MOST_CHECKS)
 }
 
 // The checks sorted. More streams or checks than the tables have are not looked at.
 pub fn sorted<'a>(counts: &'a [u32; 4], checks: &'a [u32; CHECK_WORDS], k: usize) -> SortedChecks
     ensures { Sorted counts.now checks.now k result.alone result.several result.left }
 {
-    let streams = bits::at_most(k, 4);
-    let mut alone = [0u32; 4];
-    let mut several = [0u32; SEVERAL_WORDS];
-    let mut left = [0usize; 4];
-    let mut i = 0;
-    while i < streams {
+    let mut alone = [0; 4];
+    let mut several = [0; SEVERAL_WORDS];
+    let mut left = [0; 4];
+    for i in 0..k.min(4) {
         let stream = sorted_stream(checks, i, count_of(counts, i), &mut several);
         alone[i] = stream.alone;
         left[i] = stream.left;
-        i += 1;
     }
     SortedChecks {
         alone,
@@ -99,40 +82,29 @@ pub fn sorted<'a>(counts: &'a [u32; 4], checks: &'a [u32; CHECK_WORDS], k: usize
 fn ones_in(mask: u32, word: u32) -> u32
     ensures { result ≡ dot mask word }
 {
-    u32::count_ones(mask & word)
-}
-
-// 1 if an odd number of the mask's syndromes are 1.
-fn parity(mask: u32, word: u32) -> u32
-    ensures { result ≡ dot mask word % 2 }
-{
-    u32::count_ones(mask & word) % 2
-}
-
-// How many of the sorted checks of stream i are 1.
-fn sorted_votes(alone: u32, several: &[u32; SEVERAL_WORDS], i: usize, left: usize, word: u32) -> u32
-    requires { (i < 4) × (left ≤ most_checks) }
-    ensures { result ≡ dot alone word + parities several.now (several_start i) left word }
-{
-    let mut ones = u32::count_ones(alone & word);
-    let mut r = 0;
-    while r < left {
-        ones = ones + parity(several[i * MOST_CHECKS + r], word);
-        r += 1;
-    }
-    ones
+    (mask & word).count_ones()
 }
 
 impl SortedChecks {
+    // How many of the checks of stream i are 1.
+    fn votes(&self, i: usize, word: u32) -> u32
+        requires { i < 4 }
+        ensures { result ≡ votes_sorted self.now.alone self.now.several self.now.left i word }
+    {
+        let mut ones = ones_in(self.alone[i], word);
+        for r in 0..self.left[i].min(MOST_CHECKS) {
+            ones += ones_in(self.several[i * MOST_CHECKS + r], word) % 2;
+        }
+        ones
+    }
+
     // The decided errors of a frame, stream after stream.
     fn decide_streams(&self, counts: &[u32; 4], word: u32, k: usize) -> u32
         ensures { result ≡ decide_sorted counts.now self.now.alone self.now.several self.now.left word k }
     {
-        let mut errors: u32 = 0;
+        let mut errors = 0;
         for i in 0..k.min(4) {
-            let left = self.left[i].min(MOST_CHECKS);
-            let votes = sorted_votes(self.alone[i], &self.several, i, left, word);
-            errors = errors + (more_than_half(count_of(counts, i), votes) << i);
+            errors += u32::from(more_than_half(count_of(counts, i), self.votes(i, word))) << i;
         }
         errors
     }
@@ -143,7 +115,7 @@ impl SortedChecks {
         ensures { result ≡ decide_sorted counts.now self.now.alone self.now.several self.now.left word k }
     {
         if k == 1 && self.left[0] == 0 {
-            return more_than_half(count_of(counts, 0), ones_in(self.alone[0], word));
+            return u32::from(more_than_half(count_of(counts, 0), ones_in(self.alone[0], word)));
         }
         self.decide_streams(counts, word, k)
     }

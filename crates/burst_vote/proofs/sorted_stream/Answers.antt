@@ -5,17 +5,15 @@ use Rattle.burst_vote.proofs.sorted_stream.Goals as goal
 use Rattle.burst_vote.proofs.sorted_stream.Goals.{then-joins, else-joins}
 
 pub loop-q-init : goal.loop-q-init
-loop-q-init c = (omega arith, none-sorted _ _ _ c.requires.2)
+loop-q-init c = none-sorted _ _ _ c.requires.2
 
 pub loop-q-preserved : goal.loop-q-preserved
 loop-q-preserved c =
-    let l = c.loop-q in (
-      omega arith,
-      elim c.if-joins.branch [
-        | then-joins w ↦ rw (w.several-is, w.alone-is, w.left-is) (joined l.invariant.1 (c.joins.ensures w.if-joins.true))
-        | else-joins w ↦ rw (w.several-is, w.alone-is, w.left-is) (listed l.invariant.1 (omega arith) (omega arith))
-      ],
-    )
+    let l = c.loop-q in
+    elim c.if-joins.branch [
+      | then-joins w ↦ rw (w.several-is, w.alone-is, w.left-is) (joined l.invariant (c.joins.ensures w.if-joins.true))
+      | else-joins w ↦ rw (w.several-is, w.alone-is, w.left-is) (listed l.invariant (omega arith) (omega arith))
+    ]
 
 pub returns : goal.returns
-returns c = rw (le_antisymm c.loop-q.invariant.0 c.loop-q-test.false) at c.loop-q.invariant.1
+returns c = rw (le_antisymm c.loop-q.auto.q-end c.loop-q-test.false) at c.loop-q.invariant

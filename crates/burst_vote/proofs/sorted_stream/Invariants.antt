@@ -1,10 +1,6 @@
 -- The loop has sorted the checks that it passed.
-use Prim.Native.Nat.{◌-◌, ◌≤◌}
 use Rattle.burst_vote.specs.Sorted.{SortedStream}
 use Rattle.burst_vote.proofs.sorted_stream.Given as goal
 
 abbrev pub invariant-loop-q : goal.invariant-loop-q
-invariant-loop-q l = (l.q ≤ l.count) × SortedStream l.checks l.i l.q l.initial.several l.several l.alone l.left
-
-abbrev pub decreases-loop-q : goal.decreases-loop-q
-decreases-loop-q l = l.count - l.q
+invariant-loop-q l = SortedStream l.checks l.i l.q l.initial.several l.several l.alone l.left

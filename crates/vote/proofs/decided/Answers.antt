@@ -1,11 +1,11 @@
 use Prim.Native.Nat.{◌<◌, min}
-use mathlib.Core.Bool.{Bool, true, false, cond}
-use mir.Val.{bool_byte}
+use mathlib.Core.Bool.{cond}
 use mathlib.Core.Path.{◌≡◌, refl, ap, ◌∙◌}
 use native.Mathlib.Omega.{arith}
 use borrow.Author.Rules.{rules}
 use Rattle.bits.specs.Sums.{sum_below}
 use Rattle.bits.specs.Digits.{from_digits, shift_up}
+use Rattle.bits.proofs.Cases.{bool-digit}
 use Rattle.bits.proofs.Words.{placed-lt, placed-fits, placed-more}
 use Rattle.vote.proofs.decided.Goals as goal
 
@@ -19,11 +19,6 @@ overflow_add-errors g c =
     let digit : c.from.result < 2 = search rules in
     record { fits = placed-fits c.loop-i.errors c.from.result c.loop-i.i c.loop-i.invariant.0 digit (omega arith) }
 
--- a digit of the errors
-byte : (b : Bool) → bool_byte b ≡ cond b 1 0
-byte true = refl
-byte false = refl
-
 pub loop-i-preserved : goal.loop-i-preserved
 unfolding shift_up
 loop-i-preserved g c =
@@ -32,7 +27,7 @@ loop-i-preserved g c =
       placed-lt l.errors c.from.result l.i l.invariant.0 digit (omega arith),
       λ d h.
           let is : c.wrong.result ≡ d l.i = h l.i (omega arith) _ c.wrong.ensures in
-          placed-more l.errors c.from.result l.i l.invariant.0 digit (omega arith) (λ i. cond (d i) 1 0) (l.invariant.1 d h) (rw (c.from.ensures, is) (byte (d l.i))),
+          placed-more l.errors c.from.result l.i l.invariant.0 digit (omega arith) (λ i. cond (d i) 1 0) (l.invariant.1 d h) (rw (c.from.ensures, is) (bool-digit (d l.i))),
     )
 
 pub returns : goal.returns

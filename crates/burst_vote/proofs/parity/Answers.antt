@@ -1,9 +1,0 @@
-use Prim.Native.Nat.{◌%◌}
-use mathlib.Core.Path.{refl, ap}
-use native.Mathlib.Omega.{arith}
-use lib.Bits.{and_lt}
-use Rattle.vote.proofs.Voting.{ones-of-common}
-use Rattle.burst_vote.proofs.parity.Goals as goal
-
-pub returns : goal.returns
-returns c = let a = c.args in ap (λ n. n % 2) (ones-of-common a.mask a.word refl (and_lt 32 a.mask a.word (omega arith) (omega arith)))
