@@ -10,7 +10,7 @@ use lib.Pow.{pow_pos}
 use lib.Seq.{get_or-set_same, get_or-set_other}
 use Rattle.bits.proofs.Cases.{same_or_not}
 use Rattle.bits.proofs.Lists.{zeros-at, snoc-last, snoc-other}
-use Rattle.code.specs.Limits.{most_checks, check_stride, check_words, check_start}
+use Rattle.code.specs.Limits.{most_checks, check_words, check_start}
 use Rattle.orthogonal.specs.Pass.{Passed, word_code, information_streams, parity_streams, first_masks}
 use Rattle.card.specs.Reading.{Read, read_mapped, byte_field, standing_mask, judge_after, read_streams}
 use Rattle.card.specs.Reading.Field.{value, bad}
@@ -18,8 +18,7 @@ use Rattle.card.specs.Reading.Read.{got, fault}
 use Rattle.card.specs.Parts.{Tables, tables_with}
 use Rattle.code.specs.declared.Card.{Card}
 use Rattle.card.proofs.Judging.{Union, union-none, judged-same, judged-union}
-use Rattle.card.proofs.FieldValues.{byte-is, standing-inside, standing-within}
-use Rattle.card.proofs.HeadStages.{map-limit}
+use Rattle.card.proofs.FieldValues.{byte-is, standing-inside, standing-within, map-limit}
 use Rattle.card.proofs.RestChecks.{rest_streams, rest_checks, rest_masks, streams-start, streams-turn, streams-fault, streams-end, checks-turn, checks-fault, checks-end}
 use Rattle.card.proofs.RestChecks.{check-turn, check-fault, check-stands, check-fails}
 
@@ -79,36 +78,6 @@ pub record AtMasks (bs : List ℕ) (c : Card) (r : Read Tables) (i count : ℕ) 
 
 pub next-most : {n most : ℕ} → n < most → n + 1 ≤ most
 next-most h = omega arith
-
--- where mask j, not yet read, goes in its tables
-pub record Place (i q j : ℕ) : Type 0 where
-  pub next_fits : j + 1 < 2 ^ 64
-  pub mask_lt : j < 8
-  pub mask_fits : j * 4 < 2 ^ 64
-  pub stream-fits : i * check_stride < 2 ^ 64
-  pub check-fits : q * 8 < 2 ^ 64
-  pub row_fits : check_start i q < 2 ^ 64
-  pub slot_lt : check_start i q + j < check_words
-  pub slot-fits : check_start i q + j < 2 ^ 64
-  pub bytes_fit : (check_start i q + j) * 4 < 2 ^ 64
-
-place : {i k q count j p : ℕ} → i < k → k ≤ 4 → q < count → count ≤ most_checks → j < p → p ≤ 7 → Place i q j
-place hi hk hq hn hj hp =
-    record {
-      next_fits = omega arith;
-      mask_lt = omega arith;
-      mask_fits = omega arith;
-      stream-fits = omega arith;
-      check-fits = omega arith;
-      row_fits = omega arith;
-      slot_lt = omega arith;
-      slot-fits = omega arith;
-      bytes_fit = omega arith;
-    }
-
-pub place_of : {bs : List ℕ} {c : Card} {r : Read Tables} {i count : ℕ} {counts : List ℕ} {q at₀ : ℕ} {touched : List ℕ} {checks masks : List ℕ} {rest at j : ℕ}
-    → AtMasks bs c r i count counts q at₀ touched checks masks rest at j → j < c.p → Place i q j
-place_of v l = place v.stream-lt v.limits.k_most v.check-lt v.count_most l v.limits.p-most
 
 -- a check whose masks are all read is judged as the definition has it
 module _ {bs : List ℕ} {c : Card} {r : Read Tables} {i count : ℕ} {counts : List ℕ} {q at₀ : ℕ} {touched : List ℕ} {checks masks : List ℕ} {rest at j : ℕ}
@@ -230,7 +199,7 @@ module _ {bs : List ℕ} {c : Card} {r : Read Tables} {counts checks : List ℕ}
           earlier = v.earlier;
           union = v.union;
           seen = v.seen ++ (x ∷ []);
-          seen_are = seen_more (rw v.long-masks (place_of v l).mask_lt) (standing-within bs at c.m (rest % 2) x e) v.seen_are;
+          seen_are = seen_more (rw v.long-masks (let p = v.limits.p-most in omega arith)) (standing-within bs at c.m (rest % 2) x e) v.seen_are;
           same = sym (check-turn bs c i count q v.earlier counts place v.seen j checks rest at l e) ∙ v.same;
         }
 

@@ -1,26 +1,22 @@
 -- What is known where a field has a value.
-use Rattle.std.specs.Prelude.{Result, Ok, Err}
-use Prim.Native.Nat.{ℕ, ◌+◌, ◌-◌, ◌*◌, ◌/◌, ◌^◌, ◌≤◌, ◌<◌}
+use Prim.Native.Nat.{ℕ, ◌+◌, ◌-◌, ◌*◌, ◌/◌, ◌%◌, ◌^◌, ◌≤◌, ◌<◌}
 use mathlib.Core.Path.{◌≡◌, refl, sym, ap, ◌∙◌}
 use mathlib.Core.Bool.{true, false}
 use mathlib.Core.List.{List}
 use mathlib.Core.Logic.{⊎_elim}
-use native.Mathlib.Nat.{div-lt_iff_lt-mul, pow-succ'}
+use native.Mathlib.Nat.{div-lt_iff_lt-mul, pow-succ', one-mul}
 use native.Mathlib.Numerals.{add-one}
 use native.Mathlib.Omega.{arith}
 use lib.ListN.{length, get_or, take, drop, length-drop}
 use lib.Seq.{take_all, get_or-drop}
 use lib.Dec.{leb, ltb, eqb}
-use lib.Pow.{pow_pos}
+use lib.Pow.{pow_pos, shl_exact}
 use borrow.Author.Tests.{lt-leb, le-leb, ltb-true, leb-true, eqb-true, eqb-false}
 use Rattle.bits.proofs.Cases.{picked}
 use Rattle.card.specs.Reading.{Field, byte_field, standing_field, k_field, n_field, map_field, mask_field, word_at, standing_mask}
 use Rattle.card.specs.Reading.Field.{value, bad}
-use Rattle.card.specs.Refusals.{number_of}
-use Rattle.card.specs.Parts.{field_of}
 use Rattle.card.specs.declared.CardRule.{CardRule}
 use Rattle.card.specs.declared.CardRule.TheVariants.{Former, Present}
-use Rattle.card.specs.declared.Fault.{Fault}
 
 pub not-value : {A : Type 0} {n o v : ℕ} → bad n o ≡ value v → A
 not-value e = let z : ◌≡◌ {A = ℕ} 0 1 = cc in absurd (omega arith)
@@ -189,9 +185,8 @@ standing-within bs at m d v e =
     (λ w. let z : 0 ≡ v = value_same w.1 in let q = pow_pos (m + 1) in omega arith)
     (picked (eqb d 1) e)
 
--- ---- the field that the program holds
-pub has_value : {r : Result ℕ Fault} {f : Field} {v : ℕ} → field_of r ≡ f → r ≡ Ok v → f ≡ value v
-has_value e q = sym e ∙ ap field_of q
-
-pub has-fault : {r : Result ℕ Fault} {f : Field} {x : Fault} → field_of r ≡ f → r ≡ Err x → f ≡ bad (number_of x.refusal) x.offset
-has-fault e q = sym e ∙ ap field_of q
+-- ---- the largest map of p streams, as the program writes it
+pub map-limit : (bs : List ℕ) (at p : ℕ) → p ≤ 7 → {f : Field} → byte_field bs at 0 (1 * 2 ^ p % 4294967296 - 1) 5 ≡ f → byte_field bs at 0 (2 ^ p - 1) 5 ≡ f
+map-limit bs at p h e =
+    let whole : 1 * 2 ^ p % 4294967296 ≡ 2 ^ p = shl_exact {a = 1} 1 p 32 (omega arith) (omega arith) ∙ one-mul (2 ^ p) in
+    ap (λ n. byte_field bs at 0 (n - 1) 5) (sym whole) ∙ e

@@ -1,7 +1,6 @@
 -- reading
 pub mod FieldValues
 pub mod ReadParts
-pub mod HeadStages
 pub mod Rest
 pub mod RestGenerators
 pub mod Judging

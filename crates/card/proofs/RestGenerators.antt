@@ -35,11 +35,6 @@ module _ (bs : List ℕ) (z : Sizes) where
   unfolding rest_rows read_generators
   rows_start start {map} e = rw (sub-zero, e) (next_is-map (λ rows. store_rows 0 rows (replicate 32 0)) (read_rows bs z.m z.p z.k map (start + 2)))
 
-  pub map-fault : (start : ℕ) {n o : ℕ} → map_field bs start (z.k * z.p) ≡ bad n o
-      → fault n o ≡ read_mapped (λ rows. store_rows 0 rows (replicate 32 0)) (read_generators bs start z.k z.p z.m)
-  unfolding read_generators
-  map-fault start e = rw e
-
   rows_end : (i : ℕ) (generators : List ℕ) (map at : ℕ) → z.k ≤ i → rest_rows i generators map at ≡ got generators at
   unfolding rest_rows read_rows store_rows
   rows_end i generators map at h = rw (none_left z.k i h)

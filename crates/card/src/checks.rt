@@ -17,7 +17,8 @@ pub(crate) fn read_checks(
     counts: &mut [u32; 4],
     checks: &mut [u32; CHECK_WORDS],
 ) -> Result<usize, Fault>
-    requires start_in_bounds { (start ≤ length bytes.now) × ((sizes.k ≤ 4) × ((sizes.k + sizes.p ≤ 8) × ((sizes.p ≤ 7) × (sizes.m < 32)))) }
+    requires start_in_bounds { start ≤ length bytes.now }
+    requires sizes_in_limits { (sizes.k ≤ 4) × ((sizes.k + sizes.p ≤ 8) × ((sizes.p ≤ 7) × (sizes.m < 32))) }
     requires tables_empty { (counts.old ≡ replicate 4 0) × (checks.old ≡ replicate check_words 0) }
     ensures { read_by result (record { counts = counts.new; checks = checks.new })
         ≡ read_mapped (tables_with 0 (replicate 4 0) (replicate check_words 0))

@@ -43,7 +43,8 @@ pub(crate) fn read_generators(
     sizes: Sizes,
     generators: &mut [u32; 32],
 ) -> Result<usize, Fault>
-    requires start_in_bounds { (start ≤ length bytes.now) × ((sizes.k ≤ 4) × ((sizes.p ≤ 7) × (sizes.m < 32))) }
+    requires start_in_bounds { start ≤ length bytes.now }
+    requires sizes_in_limits { (sizes.k ≤ 4) × ((sizes.p ≤ 7) × (sizes.m < 32)) }
     requires generators_empty { generators.old ≡ replicate 32 0 }
     ensures { read_by result generators.new
         ≡ read_mapped (λ rows. store_rows 0 rows (replicate 32 0)) (read_generators bytes.now start sizes.k sizes.p sizes.m) }

@@ -1,11 +1,11 @@
 -- What the loop of the pass keeps, the streams below s worked out, and what it leaves: the judgement, and the errors added.
 use Prim.Native.Nat.{ℕ, ◌+◌, ◌*◌, ◌%◌, ◌^◌, ◌≤◌, ◌<◌, zero-le, min, max}
 use mathlib.Core.Path.{◌≡◌, refl, sym, ap, ◌∙◌}
-use mathlib.Core.List.{List}
+use mathlib.Core.List.{List, ◌++◌}
 use mathlib.Core.Logic.{⊎_elim}
 use native.Mathlib.Nat.{zero-mul, mod-eq_of_lt, le_antisymm}
 use native.Mathlib.Omega.{arith}
-use lib.ListN.{length, get_or, set, replicate, length-set}
+use lib.ListN.{length, get_or, set, drop, replicate, length-set}
 use lib.Seq.{get_or-set_same, get_or-set_other}
 use lib.Bits.{bit_or, or_lt}
 use borrow.Author.Tests.{eq-eqb, ne_eqb}
@@ -13,16 +13,16 @@ use Rattle.bits.specs.Sums.{sum_below, up_to}
 use Rattle.bits.specs.Digits.{bit, from_digits}
 use Rattle.bits.proofs.Cases.{le-or-lt, same_or_not}
 use Rattle.bits.proofs.Sums.{sum-none, none_of-sum, sum_more}
-use Rattle.bits.proofs.Lists.{zeros-at, up_to-at}
+use Rattle.bits.proofs.Lists.{zeros-at, part_at, part-rest}
 use Rattle.bits.proofs.Digits.{bit_le, bit-zero, bit-of-zero, bit-or, from_digits-bits}
 use Rattle.code.specs.Checks.{touches_by, besides}
 use Rattle.code.specs.Judging.{clashes, judge}
 use Rattle.orthogonal.specs.Pass.{holds, Touched, Clash, Passed, word_code, first_masks}
 use Rattle.orthogonal.proofs.WordCode.{touches-beyond}
 
--- the errors added to those of before, stream by stream
-abbrev pub with_errors : List ℕ → List ℕ → List ℕ
-with_errors errors before = up_to 8 (λ s. bit_or (get_or before s 0) (get_or errors s 0))
+-- the errors of the first n streams added to those of before
+abbrev pub with_errors : ℕ → List ℕ → List ℕ → List ℕ
+with_errors n errors before = up_to n (λ s. bit_or (get_or before s 0) (get_or errors s 0)) ++ drop n before
 
 module _ (generators masks before : List ℕ) (k p i : ℕ) where
   -- 1 if the check touches the error (b, s)
@@ -130,18 +130,23 @@ module _ (generators masks before : List ℕ) (k p i : ℕ) where
               kept = λ z. refl;
             }
 
-        pub stands : again ≤ 0 → {after : List ℕ} → after ≡ with_errors errors before → Passed (word_code generators k p) i (first_masks p masks) before 0 after
+        pub stands : again ≤ 0 → {n : ℕ} → n ≡ k + p → {after : List ℕ} → after ≡ with_errors n errors before
+            → Passed (word_code generators k p) i (first_masks p masks) before 0 after
         unfolding judge holds
-        stands h {after} e =
+        stands h {n} all {after} e =
             record {
               number_is = sym (rw (eq-eqb _ 1 own-touched, eq-eqb _ 0 (none-again (omega arith))));
-              added = λ z b s lb ls.
-                  ap (λ x. bit (get_or x s 0) b) e
-                  ∙ ap (λ x. bit x b) (up_to-at 8 _ s ls)
-                  ∙ bit-or (get_or before s 0) (get_or errors s 0) b
-                  ∙ ap (max (bit (get_or before s 0) b)) (⊎_elim (beyond b s) (λ l. w.done s b (omega (arith, all_done)) (omega arith)) (le-or-lt (k + p) s));
+              added = λ z b s lb ls. ap (λ x. bit (get_or x s 0) b) (e ∙ ap (λ x. with_errors x errors before) all) ∙ ⊎_elim (beyond b s) (within b s lb) (le-or-lt (k + p) s);
               kept = λ z. absurd (z refl);
             }
           where
-            beyond : (b q : ℕ) → k + p ≤ q → bit (get_or errors q 0) b ≡ touch b q
-            beyond b q l = ap (λ x. bit x b) (w.left q (omega (arith, all_done))) ∙ bit-of-zero b ∙ sym (touches-beyond generators masks k p b q l)
+            within : (b s : ℕ) → b ≤ 31 → s < k + p → bit (get_or (with_errors (k + p) errors before) s 0) b ≡ max (bit (get_or before s 0) b) (touch b s)
+            within b s lb ls =
+                ap (λ x. bit x b) (part_at (λ q. bit_or (get_or before q 0) (get_or errors q 0)) before (k + p) s ls)
+                ∙ bit-or (get_or before s 0) (get_or errors s 0) b
+                ∙ ap (max (bit (get_or before s 0) b)) (w.done s b (omega (arith, all_done)) (omega arith))
+
+            beyond : (b s : ℕ) → k + p ≤ s → bit (get_or (with_errors (k + p) errors before) s 0) b ≡ max (bit (get_or before s 0) b) (touch b s)
+            beyond b s ls =
+                ap (λ x. bit x b) (part-rest (λ q. bit_or (get_or before q 0) (get_or errors q 0)) before (k + p) s ls)
+                ∙ omega (arith, touches-beyond generators masks k p b s ls)

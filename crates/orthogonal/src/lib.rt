@@ -69,12 +69,14 @@ pub fn clash(errors: u32, before: u32, i: usize, s: usize) -> u32
     if s == i { both - both % 2 } else { both }
 }
 
-// The errors of a check added, stream by stream, to those touched.
-fn add_errors(touched: &mut [u32; 8], errors: &[u32; 8])
-    ensures { touched.new ≡ up_to 8 (λ s. bit_or (get_or touched.old s 0) (get_or errors.now s 0)) }
+// The errors of the first streams added to those touched. Beyond them there are none, and to add all eight words at once, as vectors, would wait for
+// the words that were just stored.
+fn add_errors(touched: &mut [u32; 8], errors: &[u32; 8], streams: usize)
+    requires { streams ≤ 8 }
+    ensures { touched.new ≡ up_to streams (λ s. bit_or (get_or touched.old s 0) (get_or errors.now s 0)) ++ drop streams touched.old }
 {
-    for (s, before) in touched.iter_mut().enumerate() {
-        *before |= errors[s];
+    for s in 0..streams {
+        touched[s] |= errors[s];
     }
 }
 
@@ -108,6 +110,6 @@ pub fn pass(
     if 0 < again {
         return Err(Failure::ErrorTouchedBefore);
     }
-    add_errors(touched, &errors);
+    add_errors(touched, &errors, n);
     Ok(())
 }

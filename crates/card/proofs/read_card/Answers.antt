@@ -11,9 +11,10 @@ returns-in_err-sizes c =
     rw (p.1, p.2) (card-promise _ c.args.bytes.now _ (λ i. omega (arith, c.type_inv.bytes i)) (head-stop _ _ c.in_err-sizes.ensures))
 
 pub read_generators-requires-clause-start_in_bounds : goal.read_generators-requires-clause-start_in_bounds
-read_generators-requires-clause-start_in_bounds c =
-    let r = head-ranges _ _ c.in_ok-sizes.ensures in
-    (r.inside, (r.k_most, (r.p-most, r.m_most)))
+read_generators-requires-clause-start_in_bounds c = (head-ranges _ _ c.in_ok-sizes.ensures).inside
+
+pub read_generators-requires-clause-sizes_in_limits : goal.read_generators-requires-clause-sizes_in_limits
+read_generators-requires-clause-sizes_in_limits c = let r = head-ranges _ _ c.in_ok-sizes.ensures in (r.k_most, (r.p-most, r.m_most))
 
 pub returns-in_err-at : goal.returns-in_err-at
 returns-in_err-at c =
@@ -21,9 +22,10 @@ returns-in_err-at c =
     rw (p.1, p.2) (card-promise _ c.args.bytes.now _ (λ i. omega (arith, c.type_inv.bytes i)) (generators-stop _ _ c.in_ok-sizes.ensures c.in_err-at.ensures))
 
 pub read_checks-requires-clause-start_in_bounds : goal.read_checks-requires-clause-start_in_bounds
-read_checks-requires-clause-start_in_bounds c =
-    let r = head-ranges _ _ c.in_ok-sizes.ensures in
-    (generators_within _ _ c.in_ok-sizes.ensures c.in_ok-at.ensures, (r.k_most, (r.n_most, (r.p-most, r.m_most))))
+read_checks-requires-clause-start_in_bounds c = generators_within _ _ c.in_ok-sizes.ensures c.in_ok-at.ensures
+
+pub read_checks-requires-clause-sizes_in_limits : goal.read_checks-requires-clause-sizes_in_limits
+read_checks-requires-clause-sizes_in_limits c = let r = head-ranges _ _ c.in_ok-sizes.ensures in (r.k_most, (r.n_most, (r.p-most, r.m_most)))
 
 pub returns-in_err-at-2 : goal.returns-in_err-at-2
 returns-in_err-at-2 c =

@@ -3,7 +3,7 @@ use native.Mathlib.Omega.{arith}
 use lib.ListN.{get_or}
 use lib.Bits.{bit_or}
 use Rattle.bits.specs.Sums.{up_to}
-use Rattle.bits.proofs.Lists.{part_step, part-next, part-all}
+use Rattle.bits.proofs.Lists.{part_step, part-next, part_end}
 use Rattle.orthogonal.proofs.add_errors.Goals as goal
 
 pub loop-s-init : goal.loop-s-init
@@ -18,6 +18,4 @@ loop-s-preserved c =
     part_step _ z s _ _ (omega arith) kept (ap (λ x. bit_or x (get_or c.args.errors.now s 0)) (part-next _ z s kept))
 
 pub returns : goal.returns
-returns c =
-    part-all _ c.args.touched.now c.loop-s.invariant (omega arith) (omega arith)
-    ∙ ap (λ n. up_to n (λ s. bit_or (get_or c.args.touched.now s 0) (get_or c.args.errors.now s 0))) c.told-touched
+returns c = c.loop-s.invariant ∙ part_end _ _ (omega arith) (omega arith)

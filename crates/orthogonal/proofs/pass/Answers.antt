@@ -1,18 +1,11 @@
-use Prim.Native.Nat.{ℕ, ◌+◌, ◌-◌, ◌%◌, ◌<◌}
+use Prim.Native.Nat.{◌%◌}
 use mathlib.Core.Path.{sym, ap, ◌∙◌}
 use native.Mathlib.Omega.{arith}
 use Rattle.orthogonal.proofs.Passing.{worked-first, worked-next, own-untouched, touched-before, stands}
 use Rattle.orthogonal.proofs.pass.Goals as goal
 
--- one stream fewer is left
-fewer : (n s : ℕ) → s < n → n - (s + 1) < n - s
-fewer n s l = omega arith
-
 pub loop-s-init : goal.loop-s-init
 loop-s-init c = worked-first _ _ _ _ _ _
-
-pub loop-s-smaller : goal.loop-s-smaller
-loop-s-smaller c = fewer _ _ c.loop-s-test.true
 
 pub loop-s-preserved : goal.loop-s-preserved
 loop-s-preserved c =
@@ -32,4 +25,5 @@ returns-then-again-gt0 c =
 pub returns : goal.returns
 returns c =
     stands _ _ _ _ _ _ c.loop-s.invariant (omega (arith, c.min-streams.ensures, c.min.ensures, c.loop-s-test.false))
-    (λ z. c.if-own-eq0.false (ap (λ x. x % 2) c.word-own.ensures ∙ z)) c.if-again-gt0.false c.add_errors.ensures
+    (λ z. c.if-own-eq0.false (ap (λ x. x % 2) c.word-own.ensures ∙ z)) c.if-again-gt0.false
+    (omega (arith, c.min-streams.ensures, c.min.ensures)) c.add_errors.ensures
