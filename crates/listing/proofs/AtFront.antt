@@ -8,18 +8,23 @@ use lib.Seq.{length-take-le, take-append_seam, drop-append_seam}
 use lib.IntN.{pos}
 use lib.Signed.{mag}
 use Rattle.outcomes.specs.Outcome.{BurstOutcome, outcome, given_of}
-use Rattle.outcomes.proofs.Writing.{wrote-front}
+use Rattle.outcomes.specs.declared.cursor.Cursor.{Cursor}
+use Rattle.outcomes.proofs.Writing.{stored-front}
 use Rattle.listing.specs.AtFront.{AtFront}
-use Rattle.listing.specs.Written.{WroteWhole}
+use Rattle.listing.specs.Written.{StoredLine}
 
-pub front-written : {after s t : List ℕ} {r most : ℕ} (output : List ℕ) (room : ℕ) → t ≡ s → WroteWhole most output s after r → most ≤ room
-    → room ≤ length output → AtFront room t output r after
-front-written {s = s} output room e w l o =
-    let fits : length s ≤ length output = omega (arith, w.wrote.end_is, w.within) in
+-- by a cursor, from the front of the output on
+pub front-stored : {before after : Cursor} {output s t : List ℕ} {most : ℕ} (room : ℕ) → t ≡ s → StoredLine most before after s
+    → (before.output.now ≡ output) × (before.at ≡ 0) → most ≤ room → room ≤ length output → AtFront room t output after.at after.output.now
+front-stored {before} {output = output} {s = s} room e w front l o =
+    let long = ap length front.0 in
     record {
-      count_is = omega (arith, w.wrote.end_is, ap length e);
-      bytes_are = wrote-front w.wrote fits ∙ ap (λ s. s ++ drop (length s) output) (sym e);
-      within = omega (arith, w.within);
+      count_is = omega (arith, w.stored.at_is, w.stored.length_most, w.within, front.1, ap length e);
+      bytes_are =
+          stored-front w.stored front.1 (omega (arith, w.within))
+          ∙ ap (λ (o : List ℕ). s ++ drop (length s) o) front.0
+          ∙ ap (λ (s : List ℕ). s ++ drop (length s) output) (sym e);
+      within = omega (arith, w.within, w.stored.at_is, front.1);
     }
 
 pub front-given : {bytes output after : List ℕ} {count : ℕ} (room : ℕ) → outcome (pos count) after ≡ given_of bytes output → length bytes ≤ room

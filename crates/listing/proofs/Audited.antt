@@ -1,63 +1,56 @@
 -- What an audit says of a file, case by case, and the promise of `audit`.
 use Prim.Native.Nat.{ℕ, ◌+◌, ◌≤◌, ◌<◌, min}
-use mathlib.Core.Path.{◌≡◌, refl, sym, ap, subst, ◌∙◌}
-use mathlib.Core.Bool.{Bool, true, false, not, true≢false, false≢true}
-use mathlib.Core.List.{List, [], ◌∷◌, ◌++◌}
+use mathlib.Core.Path.{◌≡◌, refl, sym, ap, ap₂, subst, ◌∙◌}
+use mathlib.Core.List.{List, [], ◌++◌}
 use mathlib.Core.Logic.{⊎_elim}
 use native.Mathlib.Omega.{arith}
-use lib.ListN.{length, get_or, take, drop, length-append, length-take}
-use lib.Seq.{sets-eq, take_all, length-take-le}
+use lib.ListN.{length, take, drop, length-append, length-take}
+use lib.Seq.{sets, sets-eq, take_all, length-take-le}
 use borrow.Author.Tests.{lt-ltb, le-ltb}
 use Rattle.bits.proofs.Cases.{le-or-lt}
-use Rattle.card.specs.Outcome.{accepted}
+use Rattle.card.specs.Outcome.{CardOutcome}
 use Rattle.card.specs.Reading.{read_card}
 use Rattle.card.specs.declared.CardRule.TheVariants.{Present}
-use Rattle.card.proofs.Acceptance.{accepted-length}
 use Rattle.outcomes.specs.Text.{text, line}
 use Rattle.outcomes.specs.Listing.{too_long_line, refused_line}
-use Rattle.outcomes.specs.Wrote.{Wrote}
-use Rattle.outcomes.proofs.Writing.{wrote-both, wrote-length}
+use Rattle.outcomes.specs.Wrote.{Stored}
 use Rattle.listing.specs.AtFront.{AtFront}
-use Rattle.listing.specs.Written.{WroteLine}
-use Rattle.listing.specs.Auditing.{most_name, audit_room, name_in, not_read_line, fault_under, fault, audit_line, passes, Audits}
-use Rattle.listing.specs.declared.auditing.Audited.{Audited}
+use Rattle.listing.specs.Auditing.{most_name, audit_room, name_in, not_read_line, fault_under, fault, audit_line, passes, line_count, passed, bytes_of, Audits}
+use Rattle.listing.specs.declared.stored.Why.{Why}
+use Rattle.listing.specs.declared.stored.Why.TheVariants.{NotRead, TooLong, Refused}
+use Rattle.listing.specs.Stored.{why_line, why_not, Passes, ReadStored}
+use Rattle.std.specs.Option.{ok_or}
+use Rattle.code.specs.declared.Card.{Card}
+use denote.Ref.{Bor}
+use Rattle.outcomes.specs.declared.cursor.Cursor.{Cursor}
+use Rattle.card.specs.Refusals.{number_of}
+use Rattle.std.proofs.Common.{Option, None, Some, Result, Ok, Err}
 
 -- ---- nothing written
 pub nothing : (room : ℕ) (output : List ℕ) → AtFront room [] output 0 output
 nothing room output = record { count_is = refl; bytes_are = refl; within = omega arith }
 
 -- ---- a line after the name that stands at the front of the output
-pub placed : {output after s : List ℕ} {at place r : ℕ} → at ≡ place → Wrote output at s after r → Wrote output place s after r
-placed {output} {after} {s} {r = r} e w = subst (λ (n : ℕ). Wrote output n s after r) e w
-
 module _ (output : List ℕ) (size : ℕ) (room : audit_room ≤ length output) where
-  front_of : (rest : List ℕ) {after : List ℕ} {r : ℕ} → Wrote output (min size most_name) rest after r → length rest ≤ 37
-      → AtFront audit_room (name_in output size ++ rest) output r after
-  unfolding name_in
-  front_of rest w few =
+  pub line-front : {before after : Cursor} (why : List ℕ) → audit_line (name_in output size) why ≡ name_in output size ++ (text " " ++ why)
+      → before.output.now ≡ output → before.at ≡ min size most_name → Stored before after (text " " ++ why) → length why ≤ 36
+      → AtFront audit_room (audit_line (name_in output size) why) output after.at after.output.now
+  unfolding name_in text
+  line-front {before} {after} why is e at w few =
       let n = min size most_name in
+      let rest = text " " ++ why in
       let whole : length (take n output) ≡ n = length-take-le n output (omega arith) in
       let long : length (take n output ++ rest) ≡ n + length rest = omega (arith, length-append (take n output) rest) in
-      record {
-        count_is = omega (arith, w.end_is);
+      subst (λ (l : List ℕ). AtFront audit_room l output after.at after.output.now) (sym is)
+      (record {
+        count_is = omega (arith, w.at_is, at);
         bytes_are =
-            w.after_is
+            w.output_is
+            ∙ ap₂ (λ (l : List ℕ) (m : ℕ). sets l m rest) e at
             ∙ sets-eq rest output n (omega arith)
             ∙ ap (λ (x : ℕ). (take n output ++ rest) ++ drop x output) (sym long);
-        within = omega (arith, w.end_is);
-      }
-
-  pub room_after : {between : List ℕ} {at : ℕ} → Wrote output (min size most_name) (text " ") between at → at + 36 ≤ length between
-  unfolding text
-  room_after v = omega (arith, v.end_is, wrote-length v)
-
-  pub line-front : (why : List ℕ) {between after : List ℕ} {at r most : ℕ} → audit_line (name_in output size) why ≡ name_in output size ++ (text " " ++ why)
-      → Wrote output (min size most_name) (text " ") between at → WroteLine most between at why after r → most ≤ 36
-      → AtFront audit_room (audit_line (name_in output size) why) output r after
-  unfolding text
-  line-front why {after = after} {r = r} is v w few =
-      subst (λ (l : List ℕ). AtFront audit_room l output r after) (sym is)
-      (front_of (text " " ++ why) (wrote-both (text " ") why v w.wrote) (omega (arith, w.within, w.wrote.end_is)))
+        within = omega (arith, w.at_is, at);
+      })
 
 -- ---- the lines of those that do not pass, none of which is empty
 module _ (name : List ℕ) where
@@ -85,61 +78,89 @@ pub refused-fails : (number offset : ℕ) → passes (refused_line number offset
 unfolding passes refused_line line text
 refused-fails number offset = refl
 
+-- a reason has a line, and what has one does not pass
+pub why-told : (name : List ℕ) (why : Why) → audit_line name (why_line why) ≡ name ++ (text " " ++ why_line why)
+unfolding why_line
+why-told name NotRead = not_read-told name
+why-told name TooLong = too_long-told name
+why-told name (Refused fault) = refused-told name (number_of fault.refusal) fault.offset
+
+pub why-fails : (why : Why) → passes (why_line why) ≡ 0
+unfolding why_line
+why-fails NotRead = not_read-fails
+why-fails TooLong = too_long-fails
+why-fails (Refused fault) = refused-fails (number_of fault.refusal) fault.offset
+
 -- ---- each case
-pub not_read : (whole : Bool) (bytes : List ℕ) → not whole ≡ true → fault whole bytes ≡ not_read_line
+pub not_read : fault None ≡ not_read_line
 unfolding fault
-not_read true bytes e = absurd (false≢true e)
-not_read false bytes e = refl
+not_read = refl
 
-pub was_read : (whole : Bool) (bytes : List ℕ) → not whole ≡ false → fault whole bytes ≡ fault true bytes
-was_read true bytes e = refl
-was_read false bytes e = absurd (true≢false e)
-
-pub too_long : (bytes : List ℕ) → 2048 < length bytes → fault true bytes ≡ too_long_line
+pub too_long : (bytes : List ℕ) → 2048 < length bytes → fault (Some bytes) ≡ too_long_line
 unfolding fault
 too_long bytes l = rw (lt-ltb 2048 (length bytes) l)
 
-pub short : (bytes : List ℕ) → length bytes ≤ 2048 → fault true bytes ≡ fault_under (read_card bytes).outcome
+pub short : (bytes : List ℕ) → length bytes ≤ 2048 → fault (Some bytes) ≡ fault_under (read_card bytes).outcome
 unfolding fault
 short bytes l = rw (le-ltb 2048 (length bytes) l)
 
-by_the_front : (bytes all : List ℕ) → bytes ≡ take 2049 all → fault true all ≡ fault true bytes
+by_the_front : (bytes all : List ℕ) → bytes ≡ take 2049 all → fault (Some all) ≡ fault (Some bytes)
 by_the_front bytes all e =
     ⊎_elim
-    (λ l. ap (fault true) (sym (e ∙ take_all 2049 all l)))
+    (λ l. ap (λ (x : List ℕ). fault (Some x)) (sym (e ∙ take_all 2049 all l)))
     (λ l. too_long all (omega arith) ∙ sym (too_long bytes (omega (arith, ap length e, length-take 2049 all))))
     (le-or-lt (length all) 2049)
 
--- no accepted card is too long
-good_passes : (bytes : List ℕ) → ((i : ℕ) → get_or bytes i 0 < 256) → (read_card bytes).outcome ≡ accepted → fault true bytes ≡ []
-unfolding fault_under
-good_passes bytes small e = short bytes (omega (arith, accepted-length Present bytes small e)) ∙ ap fault_under e
+-- ---- whether a file passes, by what came of reading it
+pub unread-passes : (file : Option (Bor (List ℕ))) (why : Why) → Err why ≡ ok_or file NotRead → Passes (bytes_of file) (Err why)
+unfolding why_not why_line
+unread-passes None why e =
+    let is : why ≡ NotRead = cc in
+    subst (λ (why : Why). Passes None (Err why)) (sym is) (record { reason = sym not_read; good_passes = λ bytes e a. absurd (cc) })
+unread-passes (Some bytes) why e = absurd (cc)
 
--- ---- the promise of `audit`, from why the file does not pass and the line that was written
-module _ (whole : Bool) (bytes output : List ℕ) (size : ℕ) (r : Audited) (small : (i : ℕ) → get_or bytes i 0 < 256) {after why : List ℕ}
-    (is : fault whole bytes ≡ why) where
-  pub audits : AtFront audit_room (audit_line (name_in output size) why) output r.count after → r.passed ≡ passes why
-      → Audits whole bytes output size r after
-  audits w p =
+pub was_read : (file : Option (Bor (List ℕ))) (bytes : Bor (List ℕ)) → Ok bytes ≡ ok_or file NotRead → bytes_of file ≡ Some bytes.now
+was_read None bytes e = absurd (cc)
+was_read (Some given) bytes e = let is : given ≡ bytes = cc in ap (λ (b : Bor (List ℕ)). Some b.now) is
+
+module _ (bytes : List ℕ) where
+  pub refused-passes : (why : Why) → ReadStored Present bytes (Err why) → Passes (Some bytes) (Err why)
+  unfolding why_not why_line fault_under
+  refused-passes NotRead read = absurd read
+  refused-passes TooLong read =
+      record { reason = sym (too_long bytes read.0); good_passes = λ others e a. absurd (let is : others ≡ bytes = cc in read.1 (ap (λ (b : List ℕ). (read_card b).outcome) (sym is) ∙ a)) }
+  refused-passes (Refused why) read =
+      let outcome = ap (λ (r : CardOutcome). r.outcome) read.1.is_read in
       record {
-        told = subst (λ (f : List ℕ). AtFront audit_room (audit_line (name_in output size) f) output r.count after) (sym is) w;
-        counted = p ∙ ap passes (sym is);
-        good_passes = good_passes bytes small;
-        by_the_front = by_the_front bytes;
+        reason = ap fault_under outcome ∙ sym (short bytes read.0);
+        good_passes = λ others e a. absurd (let is : others ≡ bytes = cc in let same = ap (λ (b : List ℕ). (read_card b).outcome) is in cc (outcome, same, a));
       }
 
-  pub audits-told : {count : ℕ} → AtFront audit_room (audit_line (name_in output size) why) output count after → r ≡ record { count = count; passed = 0 }
-      → passes why ≡ 0 → Audits whole bytes output size r after
-  audits-told w e none =
-      audits
-      (subst (λ (n : ℕ). AtFront audit_room (audit_line (name_in output size) why) output n after) (sym (ap (λ (r : Audited). r.count) e)) w)
-      (ap (λ (r : Audited). r.passed) e ∙ sym none)
+  pub accepted-passes : (card : Card) → ReadStored Present bytes (Ok card) → Passes (Some bytes) (Ok tt)
+  unfolding why_not fault_under
+  accepted-passes card read =
+      let none : fault (Some bytes) ≡ [] = short bytes read.0 ∙ ap fault_under (sym (ap (λ (r : CardOutcome). r.outcome) read.1.is_read)) in
+      record { reason = sym none; good_passes = λ others e a. none }
 
--- a file is counted once at most
-passes-most : (why : List ℕ) → passes why ≤ 1
-unfolding passes
-passes-most [] = omega arith
-passes-most (x ∷ why) = omega arith
+-- ---- the promise of `audit`, from the answer and the line that was written
+module _ (file : Option (List ℕ)) (output : List ℕ) (size : ℕ) where
+  audits : {came : Result (Unit {0}) Why} (r : Option ℕ) {after : List ℕ} → Passes file came
+      → AtFront audit_room (audit_line (name_in output size) (fault file)) output (line_count r) after
+      → passed r ≡ passes (fault file) → Audits file output size r after
+  audits r pass w p =
+      record {
+        told = w;
+        counted = p;
+        good_passes = pass.good_passes;
+        by_the_front = λ bytes all e t. by_the_front bytes all t ∙ ap fault (sym e);
+      }
 
-pub passed-most : {whole : Bool} {bytes output after : List ℕ} {size : ℕ} {r : Audited} → Audits whole bytes output size r after → r.passed ≤ 1
-passed-most {whole} {bytes} promise = omega (arith, promise.counted, passes-most (fault whole bytes))
+  -- there is no reason, and no line
+  pub audits-passed : Passes file (Ok tt) → Audits file output size None output
+  unfolding audit_line passes why_not
+  audits-passed pass = audits None pass (rw (sym pass.reason) (nothing audit_room output)) (rw (sym pass.reason))
+
+  pub audits-told : (why : Why) {count : ℕ} {after : List ℕ} → Passes file (Err why)
+      → AtFront audit_room (audit_line (name_in output size) (why_line why)) output count after → Audits file output size (Some count) after
+  unfolding why_not
+  audits-told why {count} pass w = audits (Some count) pass (rw (sym pass.reason) w) (sym (ap passes (sym pass.reason) ∙ why-fails why))

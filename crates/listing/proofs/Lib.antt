@@ -2,6 +2,7 @@ pub mod Writing
 pub mod Decimal
 pub mod LineParts
 pub mod Room
+pub mod FirstBeyond
 pub mod HandedOut
 pub mod AtFront
 pub mod Audited

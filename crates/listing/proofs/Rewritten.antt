@@ -24,9 +24,12 @@ use Rattle.outcomes.specs.Outcome.{outcome, given_of}
 use Rattle.writer.specs.Claims.{ReadsUnder, ReadsAs}
 use Rattle.writer.proofs.Forms.{written-form}
 use Rattle.listing.specs.AtFront.{AtFront}
-use Rattle.listing.specs.Written.{WroteWhole}
+use Rattle.listing.specs.declared.stored.Why.{Why}
+use Rattle.listing.specs.declared.stored.Why.TheVariants.{NotRead, TooLong, Refused}
+use Rattle.listing.specs.Stored.{why_line, ReadStored}
+use Rattle.std.proofs.Common.{Err}
 use Rattle.listing.specs.Rewriting.{rewritten_under, rewritten, Rewrites}
-use Rattle.listing.proofs.AtFront.{front-written, front-given}
+use Rattle.listing.proofs.AtFront.{front-given}
 
 -- ---- each case
 module _ (input : List ℕ) where
@@ -37,6 +40,13 @@ module _ (input : List ℕ) where
   pub short : length input ≤ 2048 → rewritten input ≡ rewritten_under (read_under Former input).outcome (read_under Former input).card
   unfolding rewritten
   short l = rw (le-ltb 2048 (length input) l)
+
+  -- why a file holds no card is what it is written as
+  pub refused-is : (why : Why) → ReadStored Former input (Err why) → rewritten input ≡ why_line why
+  unfolding rewritten_under why_line
+  refused-is NotRead read = absurd read
+  refused-is TooLong read = too_long read.0
+  refused-is (Refused fault) read = short read.0 ∙ sym (ap (λ (r : CardOutcome). rewritten_under r.outcome r.card) read.1.is_read)
 
 -- ---- a line of text is no card: it begins with a letter
 not-a-card : (first : ℕ) (rest : List ℕ) → 3 < first → (read_card (first ∷ rest)).outcome ≡ refused 5 0
@@ -104,9 +114,8 @@ module _ (input output : List ℕ) (bytes : (i : ℕ) → get_or input i 0 < 256
         by_the_front = by_the_front input;
       }
 
-  pub rewrites-line : {line : List ℕ} {most : ℕ} → rewritten input ≡ line → WroteWhole most output line after count → most ≤ longest_card
-      → longest_card ≤ length output → Rewrites input output count after
-  rewrites-line e w l room = rewrites (front-written output longest_card e w l room)
+  pub rewrites-line : {line : List ℕ} → rewritten input ≡ line → AtFront longest_card line output count after → Rewrites input output count after
+  rewrites-line e w = rewrites (subst (λ (bytes : List ℕ). AtFront longest_card bytes output count after) (sym e) w)
 
   pub rewrites-card : (c : Card) → rewritten input ≡ written c → length (written c) ≤ longest_card → outcome (pos count) after ≡ given_of (written c) output
       → Rewrites input output count after

@@ -1,15 +1,15 @@
 -- What an audit prints for a stored card file: document 02, R-13 ("prints, in order, for each refused one its name, a space and the listing's refusal
 -- line, with `input too long` above 2,048 bytes and `not read` where reading fails, and last `end` and the count that pass").
--- A file is given by whether it was read to its end, and by its bytes. Its name stands at the front of the output, and of one longer than 131,072 bytes the rest
+-- A file is given by its bytes, where it was read to its end. Its name stands at the front of the output, and of one longer than 131,072 bytes the rest
 -- is not looked at: no argument that Linux hands to a program is so long.
 -- Assumes nothing.
-use Rattle.std.specs.Prelude.{ℕ, ◌+◌, min, ◌≡◌, Bool, true, cond, List, [], ◌∷◌, ◌++◌, length, take, ltb}
+use Rattle.std.specs.Prelude.{ℕ, ◌+◌, min, ◌≡◌, cond, List, [], ◌∷◌, ◌++◌, length, take, ltb, Option, Some, None}
+use denote.Ref.{Bor}
 use Rattle.card.specs.Outcome.{Outcome, accepted, refused}
 use Rattle.card.specs.Reading.{read_card}
 use Rattle.outcomes.specs.Text.{text, line}
 use Rattle.outcomes.specs.Listing.{too_long_line, refused_line}
 use Rattle.listing.specs.AtFront.{AtFront}
-use Rattle.listing.specs.declared.auditing.Audited.{Audited}
 
 -- no name is longer
 abbrev pub most_name : ℕ
@@ -32,8 +32,9 @@ unfoldable pub fault_under : Outcome → List ℕ
 fault_under accepted = []
 fault_under (refused number offset) = refused_line number offset
 
-unfoldable pub fault : Bool → List ℕ → List ℕ
-fault whole bytes = cond whole (cond (ltb 2048 (length bytes)) too_long_line (fault_under (read_card bytes).outcome)) not_read_line
+unfoldable pub fault : Option (List ℕ) → List ℕ
+fault None = not_read_line
+fault (Some bytes) = cond (ltb 2048 (length bytes)) too_long_line (fault_under (read_card bytes).outcome)
 
 -- "for each refused one its name, a space and" why; nothing for the others
 unfoldable pub audit_line : List ℕ → List ℕ → List ℕ
@@ -45,11 +46,26 @@ unfoldable pub passes : List ℕ → ℕ
 passes [] = 1
 passes (x ∷ why) = 0
 
-pub record Audits (whole : Bool) (bytes output : List ℕ) (size : ℕ) (r : Audited) (after : List ℕ) : Type 0 where
+-- the bytes of a file that are lent, where it was read
+abbrev pub bytes_of : Option (Bor (List ℕ)) → Option (List ℕ)
+bytes_of None = None
+bytes_of (Some bytes) = Some bytes.now
+
+-- by the answer for a file, the count of its line's bytes: none where there is no line
+abbrev pub line_count : Option ℕ → ℕ
+line_count None = 0
+line_count (Some count) = count
+
+-- .. and what it adds to "the count that pass": a file that has a line does not pass
+abbrev pub passed : Option ℕ → ℕ
+passed None = 1
+passed (Some count) = 0
+
+pub record Audits (file : Option (List ℕ)) (output : List ℕ) (size : ℕ) (r : Option ℕ) (after : List ℕ) : Type 0 where
   -- the line, for which the output always has room
-  pub told : AtFront audit_room (audit_line (name_in output size) (fault whole bytes)) output r.count after
-  pub counted : r.passed ≡ passes (fault whole bytes)
+  pub told : AtFront audit_room (audit_line (name_in output size) (fault file)) output (line_count r) after
+  pub counted : passed r ≡ passes (fault file)
   -- a card that is accepted passes
-  pub good_passes : (read_card bytes).outcome ≡ accepted → fault true bytes ≡ []
+  pub good_passes : (bytes : List ℕ) → file ≡ Some bytes → (read_card bytes).outcome ≡ accepted → fault file ≡ []
   -- what follows the first 2,049 bytes of a file changes nothing, so nobody needs to read further
-  pub by_the_front : (all : List ℕ) → bytes ≡ take 2049 all → fault true all ≡ fault true bytes
+  pub by_the_front : (bytes all : List ℕ) → file ≡ Some bytes → bytes ≡ take 2049 all → fault (Some all) ≡ fault file

@@ -2,4 +2,5 @@ pub mod AtFront
 pub mod Auditing
 pub mod Promise
 pub mod Written
+pub mod Stored
 pub mod Rewriting

@@ -1,53 +1,26 @@
-// Text at a place of the output. Each function hands back the place after what it wrote; its caller sees to it that there is room.
-ghost use Rattle.std.specs.Prelude.{◌≡◌, [], ◌∷◌, ◌++◌, ◌+◌, ◌≤◌, ◌<◌, length};
-ghost use Rattle.outcomes.specs.Text.{glyph, decimal};
-ghost use Rattle.outcomes.specs.Wrote.{Wrote};
+// Text laid out by a cursor. It is not printed by `write!`: the promises of `list`, `audit` and `rewrite` say the bytes.
+ghost use Rattle.std.specs.Prelude.{◌++◌};
+ghost use Rattle.outcomes.specs.Text.{decimal};
+ghost use Rattle.outcomes.specs.Wrote.{Stored};
 
-pub(crate) fn byte(output: &mut [u8], at: usize, value: u8) -> usize
-    requires { at < length output.old }
-    ensures { Wrote output.old at (value ∷ []) output.new result }
-{
-    output[at] = value;
-    at + 1
-}
-
-// The byte of a decimal digit.
-fn digit(d: usize) -> u8
-    requires { d < 10 }
-    ensures { result ≡ glyph d }
-{
-    b'0' + d as u8
-}
-
-pub(crate) fn word(output: &mut [u8], at: usize, bytes: &[u8]) -> usize
-    requires { at + length bytes.now ≤ length output.old }
-    ensures { Wrote output.old at bytes.now output.new result }
-{
-    let mut i = 0;
-    while i < bytes.len() {
-        output[at + i] = bytes[i];
-        i += 1;
-    }
-    at + i
-}
+use outcomes::cursor::Cursor;
 
 // A number in decimal: what stands before its last digit, and that digit.
-pub(crate) fn number(output: &mut [u8], at: usize, n: usize) -> usize
-    requires { at + length (decimal n) ≤ length output.old }
-    ensures { Wrote output.old at (decimal n) output.new result }
+pub(crate) fn number(cursor: &mut Cursor<'_>, n: usize)
+    ensures { Stored cursor.old cursor.new (decimal n) }
 {
     if n < 10 {
-        return byte(output, at, digit(n));
+        cursor.put(b'0' + n as u8);
+        return;
     }
-    let last = number(output, at, n / 10);
-    byte(output, last, digit(n % 10))
+    number(cursor, n / 10);
+    cursor.put(b'0' + (n % 10) as u8);
 }
 
 // A word, and a number after it.
-pub(crate) fn numbered(output: &mut [u8], at: usize, bytes: &[u8], n: usize) -> usize
-    requires { at + (length bytes.now + length (decimal n)) ≤ length output.old }
-    ensures { Wrote output.old at (bytes.now ++ decimal n) output.new result }
+pub(crate) fn numbered(cursor: &mut Cursor<'_>, word: &[u8], n: usize)
+    ensures { Stored cursor.old cursor.new (word.now ++ decimal n) }
 {
-    let end = word(output, at, bytes);
-    number(output, end, n)
+    cursor.put_all(word);
+    number(cursor, n);
 }

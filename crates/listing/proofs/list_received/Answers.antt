@@ -8,7 +8,7 @@ use Rattle.majority.specs.Plain.{decoded}
 use Rattle.outcomes.specs.Listing.{listing_of}
 use Rattle.listing.proofs.HandedOut.{admitted, handed-few}
 use Rattle.listing.proofs.AtFront.{front-within, front_length, front-is}
-use Rattle.listing.proofs.Writing.{whole-as}
+use Rattle.listing.proofs.Writing.{line-as}
 use Rattle.listing.proofs.list_received.Goals as goal
 
 pub receive-count-requires : goal.receive-count-requires
@@ -24,12 +24,10 @@ slice_bounds-list_handed_out-end c = front_length c.receive-count.ensures
 pub list_handed_out-requires : goal.list_handed_out-requires
 list_handed_out-requires c =
     let a = c.args in
-    let few = handed-few (read_card a.bytes.now).card a.frames.now c.receive-count.ensures c.requires.2 in
-    (c.requires.0.guaranteed, few, c.requires.3)
+    (c.requires.0.guaranteed, handed-few (read_card a.bytes.now).card a.frames.now c.receive-count.ensures c.requires.2)
 
 pub returns : goal.returns
 returns c =
     let a = c.args in
-    let front = front-is c.receive-count.ensures in
-    whole-as (ap (listing_of a.card) (front ∙ ap (λ (x : Card). decoded x a.frames.now) (sym c.requires.0.card_is))) (omega arith)
+    line-as (ap (listing_of a.card.now) (front-is c.receive-count.ensures ∙ ap (λ (x : Card). decoded x a.frames.now) (sym c.requires.0.card_is))) (omega arith)
     c.list_handed_out.ensures

@@ -1,16 +1,15 @@
-use native.Mathlib.Omega.{arith}
+use Prim.Native.Nat.{ℕ, ◌+◌}
+use mathlib.Core.Path.{◌≡◌, ap, ◌∙◌}
 use Rattle.outcomes.specs.Text.{text}
-use Rattle.listing.proofs.LineParts.{card-line, sizes-parts}
-use Rattle.outcomes.proofs.Writing.{wrote_as, wrote-both}
+use Rattle.outcomes.specs.Listing.{card_line}
+use Rattle.outcomes.proofs.Writing.{stored-both, stored-as}
+use Rattle.listing.proofs.LineParts.{card-line}
 use Rattle.listing.proofs.lines.card_line.Goals as goal
-
-pub byte-requires : goal.byte-requires
-byte-requires c =
-    let a = c.args in
-    omega (arith, sizes-parts a.k a.n a.m)
 
 pub returns : goal.returns
 unfolding text
 returns c =
-    wrote_as (card-line _ _ _ _)
-    (wrote-both _ _ (wrote-both _ _ c.numbered-after_number.ensures c.sizes-after_sizes.ensures) c.byte.ensures)
+    let card = c.args.card.now in
+    let same : c.from.result ≡ card.number = cc in
+    stored-as (card-line _ _ _ _ ∙ ap (λ (number : ℕ). card_line number card.k (card.k + card.p) card.m) same)
+    (stored-both (stored-both c.numbered.ensures c.sizes.ensures) c.put.ensures)

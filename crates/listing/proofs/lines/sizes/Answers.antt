@@ -1,5 +1,5 @@
-use Rattle.outcomes.proofs.Writing.{wrote-both}
+use Rattle.outcomes.proofs.Writing.{stored-both}
 use Rattle.listing.proofs.lines.sizes.Goals as goal
 
 pub returns : goal.returns
-returns c = wrote-both _ _ (wrote-both _ _ c.lettered-after_k.ensures c.lettered-after_n.ensures) c.lettered.ensures
+returns c = stored-both (stored-both c.lettered.ensures c.lettered-2.ensures) c.lettered-3.ensures

@@ -1,16 +1,13 @@
 use Prim.Native.Nat.{ℕ}
-use mathlib.Core.Path.{ap}
+use mathlib.Core.Path.{◌≡◌, ap, ◌∙◌}
 use mathlib.Core.List.{◌++◌}
-use native.Mathlib.Omega.{arith}
+use Rattle.bits.specs.Digits.{bit}
 use Rattle.outcomes.specs.Text.{text, decimal}
-use Rattle.listing.proofs.Decimal.{decimal-length}
-use Rattle.outcomes.proofs.Writing.{wrote_as}
+use Rattle.outcomes.proofs.Writing.{stored-as}
 use Rattle.listing.proofs.lines.stream_digit.Goals as goal
-
-pub numbered-requires : goal.numbered-requires
-numbered-requires c =
-    omega (arith, decimal-length 0 c.stream.result (omega arith))
 
 pub returns : goal.returns
 unfolding text
-returns c = wrote_as (ap (λ (n : ℕ). text " " ++ decimal n) c.stream.ensures.0) c.numbered.ensures
+returns c =
+    let same : c.digit.result ≡ bit c.args.frame c.args.i = c.digit.ensures ∙ ap (λ f. bit f c.args.i) c.from.ensures in
+    stored-as (ap (λ (n : ℕ). text " " ++ decimal n) same) c.numbered.ensures

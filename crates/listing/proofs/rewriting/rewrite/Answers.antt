@@ -1,40 +1,25 @@
--- Each way out by the length of the input and the verdict on its card.
-use mathlib.Core.Path.{sym, ap, ◌∙◌}
+-- Each way out by what the reading of the stored card came to.
+use mathlib.Core.Path.{refl, ap, ◌∙◌}
 use native.Mathlib.Omega.{arith}
-use Rattle.card.specs.Outcome.{Outcome, outcome_of, CardOutcome}
+use Rattle.card.specs.Outcome.{CardOutcome}
 use Rattle.writer.proofs.Carrying.{read_as, accepted-length}
 use Rattle.listing.specs.Rewriting.{rewritten_under}
-use Rattle.listing.proofs.Rewritten.{too_long, short, rewrites-line, rewrites-card}
+use Rattle.listing.proofs.Rewritten.{short, refused-is, rewrites-line, rewrites-card}
 use Rattle.listing.proofs.rewriting.rewrite.Goals as goal
 
-pub returns-then-input-gt-MOST_CARD_BYTES : goal.returns-then-input-gt-MOST_CARD_BYTES
-returns-then-input-gt-MOST_CARD_BYTES c =
-    let a = c.args in
-    rewrites-line a.input.now a.output.now (λ i. omega (arith, c.shared_slice_known-1.given i)) (too_long _ c.if-input-gt-MOST_CARD_BYTES.true)
-    c.too_long.ensures (omega arith) (omega arith)
-
 pub write_anew-requires : goal.write_anew-requires
-write_anew-requires c =
-    let read = c.read_card-read in
-    (accepted-length read.ensures (ap outcome_of c.in-Accepted.is), omega arith)
+write_anew-requires c = accepted-length c.in-Ok.ensures.1 refl
 
-pub returns-in-Accepted : goal.returns-in-Accepted
+pub returns-in-Ok : goal.returns-in-Ok
 unfolding rewritten_under
-returns-in-Accepted c =
-    let read = c.read_card-read in
+returns-in-Ok c =
     let a = c.args in
-    let e = ap outcome_of c.in-Accepted.is in
-    rewrites-card a.input.now a.output.now (λ i. omega (arith, c.shared_slice_known-1.given i)) read.result.card
-    (short _ c.if-input-gt-MOST_CARD_BYTES.false ∙ ap (λ (r : CardOutcome). rewritten_under r.outcome r.card) (read_as read.ensures e))
-    (accepted-length read.ensures e) c.write_anew.ensures
+    let read = c.in-Ok.ensures in
+    rewrites-card a.input.now a.output.now (λ i. omega (arith, c.type_inv.input i)) c.in-Ok.card
+    (short _ read.0 ∙ ap (λ (r : CardOutcome). rewritten_under r.outcome r.card) (read_as read.1 refl))
+    (accepted-length read.1 refl) c.write_anew.ensures
 
-pub returns-in-Refused : goal.returns-in-Refused
-unfolding rewritten_under
-returns-in-Refused c =
-    let read = c.read_card-read in
+pub returns-in-Err : goal.returns-in-Err
+returns-in-Err c =
     let a = c.args in
-    rewrites-line a.input.now a.output.now (λ i. omega (arith, c.shared_slice_known-1.given i))
-    (short _ c.if-input-gt-MOST_CARD_BYTES.false
-    ∙ ap (λ (r : CardOutcome). rewritten_under r.outcome r.card) (sym read.ensures.is_read)
-    ∙ ap (λ (o : Outcome). rewritten_under o read.result.card) (ap outcome_of c.in-Refused.is))
-    c.refused.ensures (omega arith) (omega arith)
+    rewrites-line a.input.now a.output.now (λ i. omega (arith, c.type_inv.input i)) (refused-is a.input.now c.in-Err.why c.in-Err.ensures) c.refuse.ensures

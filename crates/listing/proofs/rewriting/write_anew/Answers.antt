@@ -1,22 +1,30 @@
--- What writing came to; with room enough it is the count.
-use mathlib.Core.Path.{sym, ap, ◌∙◌}
+-- With room enough writing is not refused, and comes to the count.
+use Prim.Native.Nat.{ℕ, ◌≤◌}
+use mathlib.Core.Path.{◌≡◌, sym, ap, ◌∙◌}
+use mathlib.Core.List.{List}
 use native.Mathlib.Omega.{arith}
-use Rattle.outcomes.specs.Outcome.{outcome}
-use Rattle.writer.specs.Outcome.{answer_of}
-use Rattle.writer.specs.declared.CardWritten.{CardWritten}
+use lib.ListN.{length}
+use borrow.Author.Rules.{rules}
+use Rattle.std.proofs.Common.{Result, Ok, Err}
+use Rattle.std.specs.Result.{IsOk}
+use Rattle.code.specs.declared.Card.{Card}
+use Rattle.card.specs.declared.Refusal.{Refusal}
+use Rattle.card.specs.Written.{written}
+use Rattle.outcomes.specs.Outcome.{outcome, answer_of}
+use Rattle.writer.specs.Outcome.{write_under}
 use Rattle.writer.proofs.Answers.{write-given, never-refused}
 use Rattle.listing.proofs.rewriting.write_anew.Goals as goal
 
-pub returns-in-Count : goal.returns-in-Count
-returns-in-Count c =
-    let written = c.write_card-answer in
-    ap (λ (x : CardWritten). outcome (answer_of x) written.new.output) (sym c.in-Count.is)
-    ∙ written.ensures.output_after
-    ∙ write-given c.args.card c.args.output.now (omega (arith, c.requires))
+came : (c : Card) (output : List ℕ) (r : Result ℕ Refusal) {after : List ℕ} → length (written c) ≤ length output
+    → outcome (answer_of r) after ≡ write_under c output → IsOk r
+came c output (Ok count) room e = search rules
+came c output (Err refusal) room e = absurd (never-refused c output refusal room e)
 
-pub returns-in-Refused : goal.returns-in-Refused
-returns-in-Refused c =
-    let written = c.write_card-answer in
-    absurd
-    (never-refused c.args.card c.args.output.now c.in-Refused.field-0 (omega (arith, c.requires))
-    (ap (λ (x : CardWritten). outcome (answer_of x) written.new.output) (sym c.in-Refused.is) ∙ written.ensures.output_after))
+pub unwrap-requires : goal.unwrap-requires
+unwrap-requires c = came c.args.card c.args.output.now c.write_card.result (omega arith) c.write_card.ensures.output_after
+
+pub returns : goal.returns
+returns c =
+    ap (λ (r : Result ℕ Refusal). outcome (answer_of r) c.write_card.new.output) (sym c.unwrap.ensures)
+    ∙ c.write_card.ensures.output_after
+    ∙ write-given c.args.card c.args.output.now (omega arith)

@@ -1,5 +1,5 @@
-use Rattle.outcomes.proofs.Writing.{wrote-both}
+use Rattle.outcomes.proofs.Writing.{stored-both}
 use Rattle.listing.proofs.text.numbered.Goals as goal
 
 pub returns : goal.returns
-returns c = wrote-both _ _ c.word-end.ensures c.number.ensures
+returns c = stored-both c.put_all.ensures c.number.ensures
