@@ -1,4 +1,4 @@
--- Bytes written at a place of an output: nothing, one part after the other, and all from the front on.
+-- Bytes put into an output: nothing, one part after the other, and all from the front on.
 use Prim.Native.Nat.{ℕ, suc, min, ◌+◌, ◌-◌, ◌^◌, ◌≤◌, ◌<◌}
 use mathlib.Core.Path.{◌≡◌, refl, sym, ap, ap₂, subst, ◌∙◌}
 use mathlib.Core.List.{List, [], ◌∷◌, ◌++◌}
@@ -8,7 +8,7 @@ use native.Mathlib.Omega.{arith}
 use lib.ListN.{length, drop, set, length-append}
 use lib.Seq.{set_out, sets, sets-eq, length-sets}
 use Rattle.bits.proofs.Cases.{le-or-lt}
-use Rattle.outcomes.specs.Wrote.{Wrote, Stored}
+use Rattle.outcomes.specs.Wrote.{Stored}
 use Rattle.outcomes.specs.declared.cursor.Cursor.{Cursor}
 
 pub sets-append : (l : List ℕ) (i : ℕ) (s t : List ℕ) → sets (sets l i s) (i + length s) t ≡ sets l i (s ++ t)
@@ -16,37 +16,6 @@ sets-append l i [] t = ap (λ (n : ℕ). sets l n t) (add-zero i)
 sets-append l i (x ∷ s) t =
     ap (λ (n : ℕ). sets (sets (set l i x) (suc i) s) n t) (add-suc i (length s) ∙ sym (suc-add i (length s)))
     ∙ sets-append (set l i x) (suc i) s t
-
-pub wrote_nothing : (output : List ℕ) (at : ℕ) → Wrote output at [] output at
-wrote_nothing output at = record { after_is = refl; end_is = sym (add-zero at) }
-
-pub wrote-both : {output between after : List ℕ} {at place r : ℕ} (s t : List ℕ)
-    → Wrote output at s between place → Wrote between place t after r → Wrote output at (s ++ t) after r
-wrote-both {output} {between} {at = at} {place} s t v w =
-    record {
-      after_is =
-          w.after_is
-          ∙ ap (λ (l : List ℕ). sets l place t) v.after_is
-          ∙ ap (λ (n : ℕ). sets (sets output at s) n t) v.end_is
-          ∙ sets-append output at s t;
-      end_is = omega (arith, length-append s t, v.end_is, w.end_is);
-    }
-
-pub wrote_as : {output after : List ℕ} {at r : ℕ} {s t : List ℕ} → s ≡ t → Wrote output at s after r → Wrote output at t after r
-wrote_as {output} {after} {at} {r} e w = subst (λ (x : List ℕ). Wrote output at x after r) e w
-
-pub wrote-length : {output after : List ℕ} {at r : ℕ} {s : List ℕ} → Wrote output at s after r → length after ≡ length output
-wrote-length {output} {at = at} {s = s} w = ap length w.after_is ∙ length-sets output at s
-
--- bytes that were written from the front on, in an output that has room for it
-pub wrote-front : {output after : List ℕ} {r : ℕ} {s : List ℕ} → Wrote output 0 s after r → length s ≤ length output
-    → after ≡ s ++ drop (length s) output
-wrote-front {output} {s = s} w h =
-    w.after_is ∙ sets-eq s output 0 (omega arith) ∙ ap (λ (n : ℕ). s ++ drop n output) (zero-add (length s))
-
--- ---- by a cursor
-pub stored-nothing : (c : Cursor) → length c.output.now < 2 ^ 63 → Stored c c []
-stored-nothing c most = record { same_output = refl; length_most = most; output_is = refl; at_is = omega arith }
 
 sets-beyond : (l : List ℕ) (i : ℕ) (s : List ℕ) → length l ≤ i → sets l i s ≡ l
 sets-beyond l i [] h = refl
@@ -58,6 +27,10 @@ sets-held l at n most s h =
     ⊎_elim (λ (below : at + n ≤ most). let e : at + min n (most - at) ≡ at + n = omega arith in ap (λ (i : ℕ). sets l i s) e)
     (λ (above : most < at + n). sets-beyond l (at + min n (most - at)) s (omega arith) ∙ sym (sets-beyond l (at + n) s (omega arith)))
     (le-or-lt (at + n) most)
+
+-- ---- by a cursor
+pub stored-nothing : (c : Cursor) → length c.output.now < 2 ^ 63 → Stored c c []
+stored-nothing c most = record { same_output = refl; length_most = most; output_is = refl; at_is = omega arith }
 
 pub stored-both : {before between after : Cursor} {s t : List ℕ} → Stored before between s → Stored between after t → Stored before after (s ++ t)
 stored-both {before} {between} {s = s} {t} v w =
