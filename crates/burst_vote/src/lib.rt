@@ -2,7 +2,7 @@
 // count of ones: so the checks are sorted once, and a vote works out the parities of the others alone.
 #![tactic(auto)]
 
-ghost use Rattle.std.specs.Prelude.{◌≡◌, true, ◌<◌, ◌≤◌, length};
+ghost use Rattle.std.specs.Prelude.{◌≡◌, true, ◌%◌, ◌<◌, ◌≤◌, length};
 ghost use Rattle.bits.specs.Digits.{dot};
 ghost use Rattle.code.specs.Limits.{most_checks};
 ghost use Rattle.burst_vote.specs.Sorted.{several_words, Joins, votes_sorted, decide_sorted, Sorted, SortedStream};
@@ -85,6 +85,13 @@ fn ones_in(mask: u32, word: u32) -> u32
     (mask & word).count_ones()
 }
 
+// 1 if an odd number of the mask's syndromes are 1.
+fn parity(mask: u32, word: u32) -> u32
+    ensures { result ≡ dot mask word % 2 }
+{
+    ones_in(mask, word) % 2
+}
+
 impl SortedChecks {
     // How many of the checks of stream i are 1.
     fn votes(&self, i: usize, word: u32) -> u32
@@ -93,7 +100,7 @@ impl SortedChecks {
     {
         let mut ones = ones_in(self.alone[i], word);
         for r in 0..self.left[i].min(MOST_CHECKS) {
-            ones += ones_in(self.several[i * MOST_CHECKS + r], word) % 2;
+            ones += parity(self.several[i * MOST_CHECKS + r], word);
         }
         ones
     }

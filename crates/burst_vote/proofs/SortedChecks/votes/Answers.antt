@@ -20,7 +20,7 @@ loop-r-preserved c =
     let a = c.args in
     let l = c.loop-r in
     let m = sum_more l.r (λ r. dot (get_or a.self.now.several (several_start a.i + r) 0) a.word % 2) in
-    let n = c.ones_in.ensures in
+    let n = c.parity-ones.ensures in
     (omega arith, omega arith)
 
 pub returns : goal.returns
