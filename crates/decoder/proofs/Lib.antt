@@ -1,4 +1,4 @@
 pub mod Step
-pub mod Composed
+pub mod Syndromes
 pub mod Follow
 pub mod Example

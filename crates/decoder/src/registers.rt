@@ -21,9 +21,5 @@ pub(crate) fn ones(syndromes: &[u32; 8], p: usize) -> u32
     requires { p ≤ 8 }
     ensures { result ≡ ones_by syndromes.now p }
 {
-    let mut sum: u32 = 0;
-    for word in &syndromes[..p] {
-        sum += word.count_ones();
-    }
-    sum
+    syndromes[..p].iter().map(|word| word.count_ones()).sum()
 }

@@ -4,7 +4,7 @@ use lib.ListN.{take, length-take}
 use Rattle.std.proofs.Common.{rules, tests}
 use Rattle.std.proofs.lemmas.Iterator.{YieldsList-from_slice, cases_from_all}
 use Rattle.std.proofs.lemmas.List.{get_or-take}
-use Rattle.decoder.proofs.Composed.{errors-none}
+use Rattle.decoder.proofs.Syndromes.{errors-none}
 use Rattle.decoder.proofs.errors.Goals as goal
 
 pub returns-then-all : goal.returns-then-all
