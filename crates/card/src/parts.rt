@@ -51,19 +51,12 @@ pub(crate) fn read_generators(
 {
     let mut rest = fields::map_field(bytes, start, sizes.k * sizes.p)?;
     let mut at = start + 2;
-    let mut outcome = Ok(());
-    'rows: for i in 0..sizes.k {
+    for i in 0..sizes.k {
         for j in 0..sizes.p {
-            match fields::standing_mask(bytes, at, sizes.m, rest % 2) {
-                Ok(mask) => generators[i * 8 + j] = mask,
-                Err(fault) => {
-                    outcome = Err(fault);
-                    break 'rows;
-                }
-            }
+            generators[i * 8 + j] = fields::standing_mask(bytes, at, sizes.m, rest % 2)?;
             at += (rest % 2) as usize * 4;
             rest /= 2;
         }
     }
-    outcome.and(Ok(at))
+    Ok(at)
 }

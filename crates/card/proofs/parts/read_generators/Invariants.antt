@@ -1,5 +1,4 @@
--- Nothing is refused so far, and the rest of the generators from where the loops stand gives the whole answer (`RestGenerators`).
-use Rattle.std.specs.Prelude.{◌≡◌, Ok}
+-- The rest of the generators from where the loops stand gives the whole answer (`RestGenerators`).
 use lib.ListN.{replicate}
 use Rattle.card.specs.Fields.{store_rows}
 use Rattle.card.specs.Reading.{read_mapped, read_generators}
@@ -8,14 +7,8 @@ use Rattle.card.proofs.parts.read_generators.Given as goal
 
 abbrev pub invariant-loop-j : goal.invariant-loop-j
 invariant-loop-j l =
-    record {
-      unbroken : l.outcome ≡ Ok tt;
-      place : AtRow l.bytes l.sizes (read_mapped (λ rows. store_rows 0 rows (replicate 32 0)) (read_generators l.bytes l.start l.sizes.k l.sizes.p l.sizes.m)) l.i l.generators l.rest l.at l.j;
-    }
+    AtRow l.bytes l.sizes (read_mapped (λ rows. store_rows 0 rows (replicate 32 0)) (read_generators l.bytes l.start l.sizes.k l.sizes.p l.sizes.m)) l.i l.generators l.rest l.at l.j
 
-abbrev pub invariant-rows : goal.invariant-rows
-invariant-rows l =
-    record {
-      unbroken : l.outcome ≡ Ok tt;
-      place : AtRows l.bytes l.sizes (read_mapped (λ rows. store_rows 0 rows (replicate 32 0)) (read_generators l.bytes l.start l.sizes.k l.sizes.p l.sizes.m)) l.generators l.rest l.at l.i;
-    }
+abbrev pub invariant-loop-i : goal.invariant-loop-i
+invariant-loop-i l =
+    AtRows l.bytes l.sizes (read_mapped (λ rows. store_rows 0 rows (replicate 32 0)) (read_generators l.bytes l.start l.sizes.k l.sizes.p l.sizes.m)) l.generators l.rest l.at l.i
