@@ -27,10 +27,10 @@ pub(crate) fn byte_field(
 ) -> Result<u32, Fault>
     ensures { field_of result ≡ byte_field bytes.now at low high (number_of refusal) }
 {
-    if bytes.len() <= at {
+    let Some(&byte) = bytes.get(at) else {
         return Err(cut_short(bytes));
-    }
-    let v = u32::from(bytes[at]);
+    };
+    let v = u32::from(byte);
     if v < low || high < v {
         return Err(Fault {
             refusal,
