@@ -20,7 +20,6 @@ fn share(generator: u32, received: u32, decided: u32) -> u32
 }
 
 // The sums of parity stream j, digit a for time u + a: its received digit, and the information digits that enter its parity.
-#[tactic(auto, unfolding(crate::specs::Held::sum_by))]
 fn sum(generators: &[u32], received: &[u32; 8], decided: &[u32; 4], k: usize, j: usize) -> u32
     requires { (k ≤ 4) × (j < 8) }
     ensures { result ≡ sum_by generators.now received.now decided.now k j }
