@@ -1,11 +1,10 @@
-// The lines that a trace writes.
-use card::Refusal;
+// The lines that a trace writes. A line goes out in parts, and standard error is told of each that could not be written (docs/DECISIONS.md, "A write that
+// fails"): a line as a whole, by Display, would be told of once.
+use card::{Fault, Refusal};
 
-// What became of a part of a line. The program's status does not tell, so standard error alone can tell that it is not whole.
+// What became of a part of a line.
 fn written(rt: &impl Eprint, whole: bool) {
-    if !whole {
-        let _ = rt.eprint("trace: part of a line could not be written\n");
-    }
+    let _ = filling::tell_unless(rt, whole, "trace: part of a line could not be written\n");
 }
 
 pub(crate) fn text(rt: &(impl Print + Eprint), words: &[u8]) {
@@ -20,7 +19,7 @@ pub(crate) fn too_long(rt: &(impl Print + Eprint)) {
     text(rt, b"input too long\n");
 }
 
-// Where a record is cut short or of another kind.
+// Where a record is cut short, of another kind, or one that can't be carried out.
 pub(crate) fn bad_record(rt: &(impl Print + Eprint)) {
     text(rt, b"bad record\n");
 }
@@ -32,37 +31,27 @@ fn counted(rt: &(impl Print + Eprint), words: &[u8], n: u64) {
     text(rt, b"\n");
 }
 
-pub(crate) fn refused_card(rt: &(impl Print + Eprint), refusal: Refusal, offset: usize) {
+pub(crate) fn refused_card(rt: &(impl Print + Eprint), fault: Fault) {
     text(rt, b"refused ");
-    number(rt, card::refusal_number(refusal) as u64);
+    number(rt, u64::from(u8::from(fault.refusal)));
     text(rt, b" at ");
-    number(rt, offset as u64);
+    number(rt, fault.offset as u64);
     text(rt, b"\n");
 }
 
-fn refused(rt: &(impl Print + Eprint), refusal: Refusal) {
-    counted(rt, b"refused ", card::refusal_number(refusal) as u64);
-}
-
-pub(crate) fn received(rt: &(impl Print + Eprint), answer: receiving::Answer) {
-    match answer {
-        receiving::Answer::Waiting => text(rt, b"waiting\n"),
-        receiving::Answer::Frame(frame) => counted(rt, b"frame ", frame as u64),
-        receiving::Answer::Refused(refusal) => refused(rt, refusal),
-    }
-}
-
-pub(crate) fn sent(rt: &(impl Print + Eprint), answer: encoder::Answer) {
-    match answer {
-        encoder::Answer::Frame(frame) => counted(rt, b"frame ", frame as u64),
-        encoder::Answer::Refused(refusal) => refused(rt, refusal),
+// What a call for a frame gave.
+pub(crate) fn answer(rt: &(impl Print + Eprint), came: Result<Option<u8>, Refusal>) {
+    match came {
+        Ok(None) => text(rt, b"waiting\n"),
+        Ok(Some(frame)) => counted(rt, b"frame ", u64::from(frame)),
+        Err(refusal) => counted(rt, b"refused ", u64::from(u8::from(refusal))),
     }
 }
 
 pub(crate) fn figure(rt: &(impl Print + Eprint), count: u32) {
-    counted(rt, b"figure ", count as u64);
+    counted(rt, b"figure ", u64::from(count));
 }
 
-pub(crate) fn session(rt: &(impl Print + Eprint), selected: u8) {
-    counted(rt, b"session ", selected as u64);
+pub(crate) fn session(rt: &(impl Print + Eprint), selected: u64) {
+    counted(rt, b"session ", selected);
 }

@@ -4,50 +4,42 @@
 
 mod lines;
 mod records;
+mod sessions;
 
-use card::Verdict;
 use outcomes::{MOST_CARD_BYTES, stated_length};
+use sessions::{Receiver, Sessions};
 
 // The longest input, and one byte to tell that there is more.
 const ROOM: usize = 65537;
 
 // Opens the sessions with the card, and goes through the records after it.
 fn trace(rt: &(impl Print + Eprint), input: &[u8]) {
-    let start = bits::at_most(2, input.len());
-    let rest = &input[start..];
+    let (_, rest) = input.split_at(input.len().min(2));
     let stated = stated_length(input);
     if MOST_CARD_BYTES < stated {
-        lines::too_long(rt);
-        return;
+        return lines::too_long(rt);
     }
-    let length = bits::at_most(stated, rest.len());
-    let card = &rest[..length];
+    let (card, records) = rest.split_at(rest.len().min(stated));
     let first = decoder::open(card);
-    let verdict = first.verdict;
-    match verdict {
-        Verdict::Refused { refusal, offset } => lines::refused_card(rt, refusal, offset),
-        Verdict::Accepted => {
-            lines::text(rt, b"open\n");
-            let second = digit_decoder::open(card);
-            let sender = encoder::open(card);
-            records::all(
-                rt,
-                &rest[length..],
-                first.session,
-                second.session,
-                sender.session,
-            );
-        }
+    if let Err(fault) = first.verdict {
+        return lines::refused_card(rt, fault);
     }
+    lines::text(rt, b"open\n");
+    let sessions = Sessions {
+        first: first.session,
+        second: digit_decoder::open(card).session,
+        sender: encoder::open(card).session,
+        selected: Receiver::First,
+    };
+    sessions::all(rt, records, sessions)
 }
 
 // A read that fails counts as the end of the input.
 fn main(rt: HostRuntime) {
     let mut space = [0u8; ROOM];
-    let length = filling::fill(&mut rt.stdin(), &mut space).length;
+    let (Ok(length) | Err(length)) = filling::fill(&mut rt.stdin(), &mut space);
     if ROOM <= length {
-        lines::too_long(&rt);
-        return;
+        return lines::too_long(&rt);
     }
     trace(&rt, &space[..length]);
 }
