@@ -63,6 +63,7 @@ fn sorted_stream(
 pub fn sorted<'a>(counts: &'a [u32; 4], checks: &'a [u32; CHECK_WORDS], k: usize) -> SortedChecks
     ensures { Sorted counts.now checks.now k result.alone result.several result.left }
 {
+    // By index: two arrays go along, and both are written.
     let mut alone = [0; 4];
     let mut several = [0; SEVERAL_WORDS];
     let mut left = [0; 4];
@@ -109,6 +110,7 @@ impl SortedChecks {
     fn decide_streams(&self, counts: &[u32; 4], word: u32, k: usize) -> u32
         ensures { result ≡ decide_sorted counts.now self.now.alone self.now.several self.now.left word k }
     {
+        // The loop of `vote`'s `decided`. That takes a closure, which a public function would have to require to be callable.
         let mut errors = 0;
         for i in 0..k.min(4) {
             errors += u32::from(more_than_half(count_of(counts, i), self.votes(i, word))) << i;

@@ -71,6 +71,7 @@ pub fn generator(generators: &[u32], i: usize, j: usize) -> u32
 pub fn generator_sum(generators: &[u32], k: usize, x: u32, j: usize) -> u32
     ensures { result ≡ generator_sum generators.now k x j }
 {
+    // Like `parity`, a sum over streams, but its terms are taken or not: one function of both would take the terms as a closure, and be no plainer.
     let mut sum = 0;
     for i in 0..k {
         sum ^= generator(generators, i, j) * bits::digit(x, i);
@@ -125,6 +126,7 @@ pub fn feedback(generators: &[u32], k: usize, p: usize, errors: u32) -> [u32; 8]
     if errors == 0 {
         return changes;
     }
+    // By index: after `iter_mut().take(n)` nothing is known of what was written. So too in `put_history`.
     for j in 0..p.min(8) {
         changes[j] = generator_sum(generators, k, errors, j);
     }
@@ -156,6 +158,7 @@ pub fn put_digits(registers: &mut [u32], frame: u32, place: usize)
 pub fn add_words(registers: &mut [u32], words: &[u32; 8])
     ensures { registers.new ≡ with_words registers.old words.now }
 {
+    // No `zip` with the words: after it nothing is known of the registers.
     for (s, register) in registers.iter_mut().enumerate() {
         *register ^= bits::word(words, s);
     }

@@ -21,6 +21,7 @@ fn check(checks: &[u32], at: usize, words: &[u32], p: usize) -> u32
     requires { (at + 8 ≤ length checks.now) × (8 ≤ length words.now) × (p ≤ 8) }
     ensures { result ≡ check_by checks.now at words.now p }
 {
+    // By index: one j goes along the masks from `at` on and the words, and no table is cut for it in the innermost loop of a vote.
     let mut sum = 0u32;
     for j in 0..p {
         sum ^= checks[at + j] & words[j];
@@ -83,7 +84,7 @@ pub fn more_than_half(count: usize, ones: u32) -> bool
     count < 2 * ones as usize
 }
 
-// The decided errors of a frame, bit i for stream i: all streams are decided before any is fed back.
+// The decided errors of a frame, bit i for stream i, 1 where `wrong` is true of it: all streams are decided before any is fed back.
 fn decided<F: Fn(usize) -> bool>(k: usize, wrong: F) -> u32
     requires { (i : ℕ) → i < 4 → F.pre wrong i }
     ensures { (d : ℕ → Bool) → ((i : ℕ) → i < 4 → (b : Bool) → F.post wrong i b → b ≡ d i) → result ≡ from_digits (min k 4) (λ i. cond (d i) 1 0) }

@@ -19,9 +19,10 @@ impl From<[u32; 4]> for Voters {
     ghost from_gives = { λ words voters. voters ≡ voters_of words };
 
     fn from(words: [u32; 4]) -> Voters {
+        // No `map` of the array: its result is known by its calls alone, and that they count would be a longer proof than this loop's.
         let mut counts = [0; 4];
-        for i in 0..4 {
-            counts[i] = words[i].count_ones();
+        for (i, count) in counts.iter_mut().enumerate() {
+            *count = words[i].count_ones();
         }
         Voters { words, counts }
     }
@@ -31,6 +32,7 @@ impl From<[u32; 4]> for Voters {
 fn all_checks(counts: &[u32], k: usize) -> [u32; 4]
     ensures { result ≡ all_voting counts.now k }
 {
+    // By index: after `iter_mut().take(n)` nothing is known of what was written.
     let mut words = [0; 4];
     for i in 0..k.min(4) {
         words[i] = (1 << crate::count_of(counts, i)) - 1;
@@ -66,9 +68,9 @@ fn check_votes<'a>(
 {
     let masks = masks_from(checks, i * CHECK_STRIDE + q * 8);
     let mut met = 0;
-    for s in 0..8 {
+    for (s, marks) in erased.iter().enumerate() {
         let touches = orthogonal::touched(generators, masks, sizes.k, sizes.p, s);
-        met |= orthogonal::clash(touches, erased[s], i, s);
+        met |= orthogonal::clash(touches, *marks, i, s);
     }
     met == 0
 }
@@ -106,8 +108,8 @@ pub fn voting<'a>(
 {
     let mut words = all_checks(counts, sizes.k);
     if erased.any != 0 {
-        for i in 0..4 {
-            words[i] = stream_voters(generators, checks, &erased.registers, sizes, i, words[i]);
+        for (i, word) in words.iter_mut().enumerate() {
+            *word = stream_voters(generators, checks, &erased.registers, sizes, i, *word);
         }
     }
     Voters::from(words)

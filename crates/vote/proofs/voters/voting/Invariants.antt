@@ -8,4 +8,4 @@ use Rattle.vote.proofs.voters.voting.Given as goal
 
 abbrev pub invariant-loop-i : goal.invariant-loop-i
 invariant-loop-i l =
-    l.words ≡ up_to l.i (λ b. stream_voters_by l.generators l.checks l.erased.registers l.sizes.k l.sizes.p b (get_or l.initial.words b 0)) ++ drop l.i l.initial.words
+    l.word-items ≡ up_to l.i (λ b. stream_voters_by l.generators l.checks l.erased.registers l.sizes.k l.sizes.p b (get_or l.initial.word-items b 0)) ++ drop l.i l.initial.word-items
