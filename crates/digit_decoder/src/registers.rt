@@ -31,7 +31,7 @@ fn sum(generators: &[u32], received: &[u32; 8], decided: &[u32; 4], k: usize, j:
     bits::word(received, k + j) ^ sum
 }
 
-// The sums of every parity stream.
+// The sums of every parity stream. This loop and that of `others` fill p words each: a function that took what to fill them with would be no plainer.
 fn sums(generators: &[u32], received: &[u32; 8], decided: &[u32; 4], k: usize, p: usize) -> [u32; 8]
     requires { (k ≤ 4) × (p ≤ 8) }
     ensures { result ≡ sums_by generators.now received.now decided.now k p }

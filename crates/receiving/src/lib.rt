@@ -14,6 +14,7 @@ use card::{CardRule, Fault, Opened, Refusal};
 use code::{CHECK_WORDS, Card, MOST_FRAMES};
 
 // A level, or the mark 'erased'. A level close to zero is a guess, and is erased as well.
+// Not an Option: the interface has this type, by value, and an erased reading is no missing one.
 #[derive(Clone, Copy)]
 pub enum Reading {
     Level(f32),
@@ -67,7 +68,7 @@ pub fn frames_at_opening(verdict: Result<(), Fault>) -> u32
     }
 }
 
-// The card that stands for one that is refused.
+// The card that stands for one that is refused. The encoder has its own, since no crate below both hands one out.
 fn empty_card() -> Card
     ensures { result ≡ empty_card }
 {
