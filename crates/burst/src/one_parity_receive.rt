@@ -4,6 +4,7 @@
 ghost use Rattle.std.specs.Prelude.{◌≡◌, List, ◌∷◌, ◌++◌, ◌⊎◌, ℕ, ◌+◌, ◌-◌, ◌*◌, ◌/◌, ◌%◌, ◌^◌, ◌<◌, ◌≤◌, length, get_or, drop, replicate, IfSome};
 ghost use Rattle.std.specs.Int.Bits.{bit_xor};
 ghost use Rattle.code.specs.Guarantees.{Guarantees};
+ghost use Rattle.code.specs.declared.Card.{Card};
 ghost use Rattle.majority.specs.Plain.{decoded};
 ghost use Rattle.vote.specs.Voting.{decide_by_all};
 ghost use Rattle.burst_vote.specs.Sorted.{Sorted};
@@ -115,23 +116,22 @@ struct Reached {
 
 // While no syndrome is 1 there is no vote: the frames are handed out as they came, up to the end of the input or to a frame that has to be voted on.
 fn hand_through(
-    card: &Card,
     puts: &[u64; 32],
+    k: usize,
+    m: usize,
     before: u64,
     from: usize,
     input: &[u8],
     output: &mut [u8],
 ) -> Option<Reached>
-    requires tables { OneParity card.now puts.now }
-    requires frames { from + card.now.m ≤ length input.now }
-    requires room { length input.now ≤ length output.old + card.now.m }
-    requires within { AllWithin (card.now.k + 1) input.now }
-    ensures stops { StopsWithin result from (length input.now - card.now.m) }
-    ensures through { (output₀ : List ℕ) → length output₀ ≡ length output.old
-        → Handing card.now input.now output₀ from (in_one card.now.m before) output.old → Through card.now puts.now input.now output₀ result output.new }
+    requires sizes { (k ≤ 4) × (m ≤ 31) }
+    requires frames { from + m ≤ length input.now }
+    requires room { length input.now ≤ length output.old + m }
+    requires within { AllWithin (k + 1) input.now }
+    ensures stops { StopsWithin result from (length input.now - m) }
+    ensures through { (c : Card) (output₀ : List ℕ) → OneParity c puts.now → k ≡ c.k → m ≡ c.m → length output₀ ≡ length output.old
+        → Handing c input.now output₀ from (in_one c.m before) output.old → Through c puts.now input.now output₀ result output.new }
 {
-    let k = card.k;
-    let m = card.m;
     let mut word = before;
     for u in from..input.len() - m {
         word = taken_in(word, puts, input[u + m]);
@@ -159,7 +159,7 @@ pub(crate) fn receive(card: &Card, input: &[u8], output: &mut [u8])
     let least = least_checks(&card.counts, &sorted_checks.left, k);
     let mut word = filled(card, &puts, input);
     let mut u = 0;
-    while let Some(reached) = hand_through(card, &puts, word, u, input, output) {
+    while let Some(reached) = hand_through(&puts, k, m, word, u, input, output) {
         let errors = voted(card, &sorted_checks, least, syndromes(reached.word, m));
         output[reached.u] = corrected(input[reached.u], k, errors);
         word = fed_back(reached.word, &puts, m, errors);

@@ -1,4 +1,4 @@
-use mathlib.Core.Path.{◌≡◌, ap, ◌∙◌}
+use mathlib.Core.Path.{◌≡◌, ap, ◌∙◌, refl}
 use mathlib.Core.List.{◌∷◌}
 use native.Mathlib.Omega.{arith}
 use lib.ListN.{length, replicate}
@@ -27,7 +27,7 @@ loop-reached-preserved c =
     record { guaranteed = c.requires.guaranteed; one = c.requires.one; sums = c.stream_sums.result; sums_are = c.stream_sums.ensures; puts_are = c.puts-puts.ensures } in
     let within = c.in-Some.ensures.stops in
     let same : length a.output.now ≡ length c.loop-reached.output = omega arith in
-    let through = c.in-Some.ensures.through a.output.now same c.loop-reached.invariant.1 in (
+    let through = c.in-Some.ensures.through card a.output.now one_parity refl refl same c.loop-reached.invariant.1 in (
       omega (arith, within),
       word-turn card _ one_parity a.input.now c.requires.within reached.u c.corrected.result through.0 a.output.now (omega (arith, within)) (omega arith) through.1
           (c.voted-errors.ensures ∙ ap (λ s. decide_by_all card.counts card.checks (s ∷ replicate 7 0) card.k 1) c.syndromes.ensures)
@@ -37,5 +37,7 @@ loop-reached-preserved c =
 pub returns : goal.returns
 returns c =
     let a = c.args in
+    let one_parity : OneParity a.card.now c.puts-puts.result =
+    record { guaranteed = c.requires.guaranteed; one = c.requires.one; sums = c.stream_sums.result; sums_are = c.stream_sums.ensures; puts_are = c.puts-puts.ensures } in
     let same : length a.output.now ≡ length c.loop-reached.output = omega arith in
-    all-handed a.card.now a.input.now a.output.now (c.in_default.ensures.through a.output.now same c.loop-reached.invariant.1)
+    all-handed a.card.now a.input.now a.output.now (c.in_default.ensures.through a.card.now a.output.now one_parity refl refl same c.loop-reached.invariant.1)
