@@ -9,18 +9,20 @@ use Rattle.bits.specs.Sums.{sum_below, back}
 use Rattle.bits.specs.Digits.{bit}
 use Rattle.bits.proofs.Cases.{le-or-lt}
 use Rattle.bits.proofs.Sums.{all-at_most, all-at_most-twice}
+use Rattle.std.specs.Prelude.{Result, Ok, Err}
 use Rattle.code.specs.Bench.{P}
 use Rattle.code.specs.Code.{generator}
 use Rattle.code.specs.Checks.{count, check_mask, touches_info, touches_by, touches, Orthogonal}
+use Rattle.code.specs.declared.Card.{Card}
 use Rattle.code.proofs.Touches.{touches-le}
 use Rattle.card.specs.Bench.{card_p, stored_p}
 use Rattle.card.specs.Fields.{Fields, store, store_rows, store_checks, store_streams, store_counts, card_of}
 use Rattle.card.specs.Layout.{bytes4, stands, map_of, layout_masks, optional, layout_head, all_rows, layout_rows, layout_checks, layout_streams, layout, MasksIn, InRanges, Acceptable}
-use Rattle.card.specs.Outcome.{outcome_of, CardOutcome}
+use Rattle.card.specs.Outcome.{outcome_of, card_in, CardOutcome}
 use Rattle.card.specs.Outcome.Outcome.{accepted, refused}
 use Rattle.card.specs.Promise.{EqualCards, CardPromise}
-use Rattle.card.specs.Reading.{read_card}
-use Rattle.card.specs.declared.CardRead.{CardRead}
+use Rattle.card.specs.Reading.{read_under, read_card}
+use Rattle.card.specs.declared.Fault.{Fault}
 use Rattle.card.specs.declared.CardRule.{CardRule}
 use Rattle.card.specs.declared.CardRule.TheVariants.{Former, Present}
 use Rattle.card.proofs.Acceptance.{reads_back}
@@ -106,29 +108,26 @@ acceptable-stored-P = record { limits = record { ranges = ranges-P 1 (omega arit
 
 -- ---- the clauses
 
-module _ (r : CardRead) (promise : CardPromise Present card_p r) where
-  pub accepted-P : outcome_of r.verdict ≡ accepted
-  accepted-P = promise.all_these fields_p acceptable-P
+-- an accepted card is the one that was read
+pub accepted-is : (read : Result Card Fault) {c : Card} → outcome_of read ≡ accepted → card_in read ≡ c → read ≡ Ok c
+accepted-is (Ok card) v e = ap (λ (c : Card). Ok c) e
+accepted-is (Err fault) v e = cc
 
-  -- whichever fields the bytes are said to be, these state P
-  pub card-P : r.card ≡ P
-  card-P =
-      let found = promise.only_these accepted-P in
-      found.1.card_is ∙ ap (λ (x : CardOutcome). x.card) (sym (reads_back Present card_p found.0 found.1.acceptable) ∙ read-P)
+-- P's bytes, under a rule by which these fields are acceptable: whichever fields the bytes are said to be, they state P
+module _ {rule : CardRule} {bytes : List ℕ} {read : Result Card Fault} (promise : CardPromise rule bytes read) where
+  pub accepted-P : (f : Fields) → Acceptable rule bytes f → read_under rule bytes ≡ record { outcome = accepted; card = P } → read ≡ Ok P
+  accepted-P f acceptable reads =
+      let taken = promise.all_these f acceptable in
+      let found = promise.only_these taken in
+      accepted-is read taken (found.1.card_is ∙ ap (λ (x : CardOutcome). x.card) (sym (reads_back rule bytes found.0 found.1.acceptable) ∙ reads))
 
--- the same of P as it may be stored, under the former rule
-module _ (r : CardRead) (promise : CardPromise Former stored_p r) where
-  pub accepted-stored-P : outcome_of r.verdict ≡ accepted
-  accepted-stored-P = promise.all_these stored_fields_p acceptable-stored-P
-
-  pub card-stored-P : r.card ≡ P
-  card-stored-P =
-      let found = promise.only_these accepted-stored-P in
-      found.1.card_is ∙ ap (λ (x : CardOutcome). x.card) (sym (reads_back Former stored_p found.0 found.1.acceptable) ∙ read-stored-P)
+-- as P may be stored, under the former rule ..
+pub accepted-stored-P : {read : Result Card Fault} → CardPromise Former stored_p read → read ≡ Ok P
+accepted-stored-P promise = accepted-P promise stored_fields_p acceptable-stored-P read-stored-P
 
 -- .. and under the present one
-module _ (r : CardRead) (promise : CardPromise Present stored_p r) where
-  pub refused-stored-P : outcome_of r.verdict ≡ refused 18 2
+module _ {read : Result Card Fault} (promise : CardPromise Present stored_p read) where
+  pub refused-stored-P : outcome_of read ≡ refused 18 2
   refused-stored-P = ap (λ (x : CardOutcome). x.outcome) promise.is_read ∙ read-stated-P
 
   pub outside-P : (f : Fields) → Acceptable Present stored_p f → ⊥
@@ -143,22 +142,22 @@ small-P i =
     (λ l. omega (arith, all-at_most 20 (λ i. get_or card_p i 0) (λ i. 255) refl i l))
     (le-or-lt 20 i)
 
-module _ {bytes : List ℕ} {r : CardRead} (promise : CardPromise Present bytes r) (v : outcome_of r.verdict ≡ accepted) where
+module _ {bytes : List ℕ} {read : Result Card Fault} (promise : CardPromise Present bytes read) (v : outcome_of read ≡ accepted) where
   both : EqualCards bytes card_p
   both = promise.one_form card_p small-P (sym (ap (λ (x : CardOutcome). x.outcome) promise.is_read) ∙ v) (ap (λ (x : CardOutcome). x.outcome) read-P)
 
-  own : r.card ≡ (read_card bytes).card
+  own : card_in read ≡ (read_card bytes).card
   own = ap (λ (x : CardOutcome). x.card) promise.is_read
 
-  pub bytes_of-P : r.card ≡ P → bytes ≡ card_p
+  pub bytes_of-P : card_in read ≡ P → bytes ≡ card_p
   bytes_of-P e = both.equal_bytes (sym own ∙ e ∙ sym (ap (λ (x : CardOutcome). x.card) read-P))
 
-  pub value-of-P : bytes ≡ card_p → r.card ≡ P
+  pub value-of-P : bytes ≡ card_p → card_in read ≡ P
   value-of-P e = own ∙ both.equal_values e ∙ ap (λ (x : CardOutcome). x.card) read-P
 
 -- no fields are laid out as these bytes within the limits and with orthogonal checks
 unacceptable-T : (rule : CardRule) (f : Fields) → Acceptable rule wrong_t f → ⊥
 unacceptable-T rule f a = not-both (ap (λ (r : CardOutcome). r.outcome) (reads_back rule wrong_t f a)) (read-wrong-T rule)
 
-pub not-accepted-T : (rule : CardRule) (r : CardRead) → CardPromise rule wrong_t r → outcome_of r.verdict ≡ accepted → ⊥
-not-accepted-T rule r promise e = let found = promise.only_these e in unacceptable-T rule found.0 found.1.acceptable
+pub not-accepted-T : (rule : CardRule) (read : Result Card Fault) → CardPromise rule wrong_t read → outcome_of read ≡ accepted → ⊥
+not-accepted-T rule read promise e = let found = promise.only_these e in unacceptable-T rule found.0 found.1.acceptable

@@ -4,6 +4,7 @@ use mathlib.Core.Path.{◌≡◌, refl, sym, ap, ◌∙◌}
 use mathlib.Core.List.{List, [], ◌∷◌, ◌++◌}
 use native.Mathlib.Omega.{arith}
 use lib.Count.{ones}
+use borrow.Author.Tests.{le-ltb}
 use lib.ListN.{length, take, drop}
 use lib.IntN.{pos, neg_ℤ}
 use Rattle.bits.specs.Sums.{sum_below, xor_below, up_to, put_first}
@@ -13,7 +14,6 @@ use Rattle.code.specs.Code.{most_frames}
 use Rattle.code.specs.Registers.{generator_mask, generator_sum, shift_in, history_by, parity_by, digit_by, frame_by, syndromes_by, feedback_by, with_digits, with_words, moved_on}
 use Rattle.card.specs.Bench.{card_p}
 use Rattle.card.specs.Outcome.{CardOutcome}
-use Rattle.code.specs.ErasedDigits.{any_with, erased_with, erased_moved}
 use Rattle.vote.specs.Voters.{all_voting, voters_by, decide_marked}
 use Rattle.vote.specs.Voting.{check_by, ones_by, if_whole, majority_by, decide_by}
 use Rattle.receiving.specs.Calls.{reply_of, answers, handed_by, handed_in}
@@ -21,16 +21,16 @@ use Rattle.receiving.specs.Opening as receiver
 use Rattle.receiving.specs.Readings.{read_byte_of}
 use Rattle.receiving.specs.Receive as received
 use Rattle.decoder.specs.Held.{with_syndromes, fed_back, held_with_frame, next_held, corrected_digit, corrected_by}
-use Rattle.decoder.specs.Receive.{first_circuit, errors_of, with_frame, handing_of, taken_of}
+use Rattle.decoder.specs.Receive.{first_circuit, errors_of}
 use Rattle.encoder.specs.Calls.{call_of, given_by, frames_given}
 use Rattle.encoder.specs.Opening as sender
 use Rattle.encoder.specs.Sending as sent
-use Rattle.outcomes.specs.Outcome.{outcome, refused_of, under_card}
+use Rattle.outcomes.specs.Outcome.{outcome, refused_of, given_of, under_card}
 use Rattle.outcomes.proofs.ReadCards.{read-P, read-short-P}
 use Rattle.sessions.specs.Receiving as receiving
 use Rattle.sessions.specs.Run.{run_of}
 use Rattle.sessions.specs.Sending as sending
-use Rattle.sessions.proofs.Running.{run-full, run_short, run-given, under-refused}
+use Rattle.sessions.proofs.Running.{run-full, run_short, under-refused}
 
 -- ---- under the card that P's bytes are read as
 module _ (input output : List ℕ) where
@@ -61,7 +61,7 @@ abbrev information : List ℕ
 information = 1 ∷ 2 ∷ 0 ∷ 1 ∷ []
 
 frames-out : (receiving.frames_of (received.open_of first_circuit P) one_wrong ≡ 1 ∷ 0 ∷ 1 ∷ []) × (receiving.frames_of (received.open_of first_circuit P) one_refused ≡ 1 ∷ 0 ∷ 1 ∷ [])
-unfolding sum_below xor_below up_to put_first bit from_digits dot shift_up generator_mask generator_sum shift_in history_by parity_by digit_by frame_by syndromes_by feedback_by with_digits with_words moved_on check_by ones_by if_whole majority_by decide_by all_voting voters_by any_with erased_with erased_moved corrected_digit corrected_by with_syndromes decide_marked fed_back held_with_frame next_held errors_of read_byte_of received.open_of with_frame handing_of taken_of received.in_turn received.admit_of received.refused_of received.settled_of received.receive_of received.receive_byte_of reply_of handed_by handed_in answers ones
+unfolding sum_below xor_below up_to put_first bit from_digits dot shift_up generator_mask generator_sum shift_in history_by parity_by digit_by frame_by syndromes_by feedback_by with_digits with_words moved_on check_by ones_by if_whole majority_by decide_by all_voting voters_by corrected_digit corrected_by with_syndromes decide_marked fed_back held_with_frame next_held errors_of read_byte_of received.open_of received.with_frame received.handing_of received.taken_of received.in_turn received.admit_of received.refused_of received.settled_of received.receive_of received.receive_byte_of reply_of handed_by handed_in answers ones
 frames-out = (refl, refl)
 
 frames-sent : sending.frames_of (sent.open_of P) information ≡ 3 ∷ 2 ∷ 3 ∷ 2 ∷ []
@@ -71,7 +71,8 @@ frames-sent = refl
 -- ---- what the runs come to
 given : (calls : ℕ) {frames : List ℕ} (out output : List ℕ) → frames ≡ out → calls ≤ most_frames → calls ≤ length output
     → run_of calls frames output ≡ outcome (pos (length out)) (out ++ drop (length out) output)
-given calls out output e r o = ap (λ f. run_of calls f output) e ∙ sym (run-given calls out output r o (record { counted = refl; output_is = refl }) refl)
+unfolding run_of given_of
+given calls out output e r o = ap (λ f. run_of calls f output) e ∙ rw (le-ltb most_frames calls r, le-ltb (length output) calls o)
 
 module _ (output : List ℕ) where
   pub receives : length output ≡ 4 → receiving.session_receive_of card_p one_wrong output ≡ outcome (pos 3) (1 ∷ 0 ∷ 1 ∷ drop 3 output)

@@ -6,25 +6,28 @@ use mathlib.Core.Logic.{inl, inr}
 use native.Mathlib.Omega.{arith}
 use lib.ListN.{length, take, drop, drop_of_length-le}
 use lib.IntN.{pos, neg_ℤ}
+use Rattle.std.specs.Prelude.{Result, Ok, Err}
+use Rattle.std.specs.Result.{result_unwrap_or}
 use Rattle.code.specs.Bench.{s, Six}
+use Rattle.code.specs.declared.Card.{Card}
 use Rattle.card.specs.Bench.{checks, card_p, card_q}
 use Rattle.card.specs.Fields.{store, store_rows, store_checks, store_streams, store_counts, card_of}
 use Rattle.card.specs.Layout.{bytes4, stands, map_of, layout_masks, optional, layout_head, all_rows, layout_rows, layout_checks, layout_streams, layout}
-use Rattle.card.specs.Outcome.{CardOutcome, outcome_of}
-use Rattle.card.specs.Outcome.Outcome.{accepted}
+use Rattle.card.specs.Outcome.{CardOutcome}
 use Rattle.card.specs.Promise.{CardPromise}
 use Rattle.card.specs.Reading.{read_card}
 use Rattle.card.specs.Refusals.{number_of}
 use Rattle.card.specs.Written.{stated}
-use Rattle.card.specs.declared.CardRead.{CardRead}
 use Rattle.card.specs.declared.CardRule.TheVariants.{Present}
+use Rattle.card.specs.declared.Fault.{Fault}
 use Rattle.card.specs.declared.Refusal.{Refusal}
 use Rattle.card.proofs.Acceptance.{reads_back}
-use Rattle.outcomes.specs.Outcome.{BurstOutcome, outcome, refused_of, given_of, fitted}
+use Rattle.outcomes.specs.Outcome.{BurstOutcome, outcome, answer_of, refused_of, given_of, fitted}
 use Rattle.outcomes.proofs.Outcomes.{no-refusal, fitted_short, fitted-given, front-is}
 use Rattle.standard.specs.SelfOrthogonal.{last_of, mask_of, fields_by}
 use Rattle.standard.specs.Standard.{standard_fields, standard_card, standard_of, StandardCards}
-use Rattle.standard.proofs.Answers.{within, outside}
+use Rattle.standard.proofs.Answers.{within, outside, count_most}
+use Rattle.clients.proofs.CardClauses.{accepted-is}
 
 -- P's bytes and Q's, but for the number
 abbrev two : List ℕ
@@ -73,22 +76,25 @@ module _ (claims : StandardCards) where
         ∙ fitted_short (standard_card 7) output (omega (arith, claims.length_is 7 (omega arith) (omega arith)))
 
     -- ---- all of them, in an output with room for the longest
-    module _ (J : ℕ) (least : 2 ≤ J) (most : J ≤ 7) (room : length output ≡ 45) where
-      has_room : length (standard_card J) ≤ length output
-      has_room = omega (arith, claims.length_is J least most)
+    module _ (J : ℕ) (room : length output ≡ 45) {after : List ℕ} where
+      pub fits : (written : Result ℕ Refusal) → outcome (answer_of written) after ≡ standard_of J output → result_unwrap_or written 0 ≤ 45
+      fits (Ok count) e = count_most J output claims e
+      fits (Err refusal) e = omega arith
 
-      pub not-refused : (refusal : Refusal) {after : List ℕ} → outcome (neg_ℤ (pos (number_of refusal))) after ≡ standard_of J output → ⊥
-      unfolding given_of
-      not-refused refusal e =
-          no-refusal (number_of refusal) (length (standard_card J)) (omega (arith, claims.length_is J least most))
-          (ap (λ (b : BurstOutcome). b.answer) (e ∙ given J least most refl has_room))
+      module _ (least : 2 ≤ J) (most : J ≤ 7) where
+        not-refused : (refusal : Refusal) → outcome (answer_of (Err refusal)) after ≡ standard_of J output → ⊥
+        unfolding given_of
+        not-refused refusal e =
+            no-refusal (number_of refusal) (length (standard_card J)) (omega (arith, claims.length_is J least most))
+            (ap (λ (b : BurstOutcome). b.answer) (e ∙ given J least most refl (omega (arith, claims.length_is J least most))))
 
-      pub accepted-each : {n : ℕ} {after : List ℕ} → outcome (pos n) after ≡ standard_of J output → (read : CardRead) → CardPromise Present (take n after) read
-          → (outcome_of read.verdict ≡ accepted) × (read.card ≡ card_of (standard_fields J))
-      accepted-each {n} {after} e read promise =
-          let bytes : take n after ≡ standard_card J = front-is (standard_card J) output (e ∙ within J output least most) in
-          let as_read = promise.is_read ∙ ap read_card bytes ∙ reads_back Present (standard_card J) (standard_fields J) (claims.acceptable J least most) in
-          (ap (λ (r : CardOutcome). r.outcome) as_read, ap (λ (r : CardOutcome). r.card) as_read)
+        pub accepted-each : (written : Result ℕ Refusal) → outcome (answer_of written) after ≡ standard_of J output
+            → {read : Result Card Fault} → CardPromise Present (take (result_unwrap_or written 0) after) read → read ≡ Ok (card_of (standard_fields J))
+        accepted-each (Ok count) e {read} promise =
+            let bytes : take count after ≡ standard_card J = front-is (standard_card J) output (e ∙ within J output least most) in
+            let as_read = promise.is_read ∙ ap read_card bytes ∙ reads_back Present (standard_card J) (standard_fields J) (claims.acceptable J least most) in
+            accepted-is read (ap (λ (r : CardOutcome). r.outcome) as_read) (ap (λ (r : CardOutcome). r.card) as_read)
+        accepted-each (Err refusal) e promise = absurd (not-refused refusal e)
 
 -- ---- no card
 module _ (output : List ℕ) where

@@ -1,6 +1,6 @@
 -- What the clauses of the card writer's promises give for cards of the bench.
 use Prim.Native.Nat.{ℕ, ◌≤◌, ◌<◌}
-use mathlib.Core.Path.{◌≡◌, sym, ap, subst, ◌∙◌}
+use mathlib.Core.Path.{◌≡◌, sym, ap, ◌∙◌}
 use mathlib.Core.List.{List, ◌++◌}
 use native.Mathlib.Omega.{arith}
 use lib.ListN.{length, take, drop}
@@ -11,9 +11,7 @@ use Rattle.code.specs.declared.Card.{Card}
 use Rattle.card.specs.Bench.{checks, card_p, stored_p}
 use Rattle.card.specs.Outcome.{CardOutcome}
 use Rattle.card.specs.Outcome.Outcome.{accepted}
-use Rattle.card.specs.Promise.{CardPromise}
 use Rattle.card.specs.Reading.{read_card}
-use Rattle.card.specs.declared.CardRead.{CardRead}
 use Rattle.card.specs.declared.CardRule.TheVariants.{Former, Present}
 use Rattle.card.proofs.Acceptance.{reads_back}
 use Rattle.outcomes.specs.Outcome.{BurstOutcome, outcome, refused_of, given_of}
@@ -75,27 +73,18 @@ pub refused-P : (output : List ℕ) → write_of (take 19 card_p) output ≡ out
 unfolding refused_of
 refused-P output = write-refused (take 19 card_p) output read-short-P
 
--- ---- `write_card`, with the card that P as stored is read as under the former rule
-module _ (read : CardRead) (promise : CardPromise Former stored_p read) where
-  card-P : read.card ≡ P
-  card-P = ap (λ (r : CardOutcome). r.card) (promise.is_read ∙ read-stored-P)
+-- ---- `write_card`, with P
+pub written-as-P : (output : List ℕ) → length output ≡ 22 → write_under P output ≡ outcome (pos 20) (card_p ++ drop 20 output)
+unfolding given_of
+written-as-P output room = write-given P output (omega (arith, ap length written-P)) ∙ ap (λ (l : List ℕ). given_of l output) written-P
 
-  pub written-as-P : (output : List ℕ) → length output ≡ 22 → {b : BurstOutcome} → b ≡ write_under read.card output
-      → b ≡ outcome (pos 20) (card_p ++ drop 20 output)
-  unfolding given_of
-  written-as-P output room e =
-      e ∙ ap (λ (c : Card). write_under c output) card-P
-      ∙ write-given P output (omega (arith, ap length written-P))
-      ∙ ap (λ (l : List ℕ). given_of l output) written-P
-
-  pub form-of-P : WrittenForm read.card → FormOfP
-  form-of-P claims =
-      let form = subst WrittenForm card-P claims in
-      record {
-        reads_back = form.reads_back Former stored_p read-stored-P;
-        states_it = form.states_it Former stored_p read-stored-P;
-        one_only = form.one_only card_p fields_p states-P;
-        length_most = form.length_most Former stored_p read-stored-P;
-        shortest = form.shortest Present card_p fields_p states-P;
-        shorter_than_stored = form.shortest Former stored_p stored_fields_p states-stored-P;
-      }
+pub form-of-P : WrittenForm P → FormOfP
+form-of-P form =
+    record {
+      reads_back = form.reads_back Former stored_p read-stored-P;
+      states_it = form.states_it Former stored_p read-stored-P;
+      one_only = form.one_only card_p fields_p states-P;
+      length_most = form.length_most Former stored_p read-stored-P;
+      shortest = form.shortest Present card_p fields_p states-P;
+      shorter_than_stored = form.shortest Former stored_p stored_fields_p states-stored-P;
+    }

@@ -17,8 +17,8 @@ use listing::rewriting::REWRITING_ROOM;
 
 // P's bytes, which are read as the same card: `wrote`, `carried_over`. What the output has beyond them is as it was.
 pub fn stored_p_is_rewritten(output: &mut [u8; REWRITING_ROOM]) -> usize
-    ensures output_after { (take result output.new ≡ card_p) × (drop result output.new ≡ drop result output.old) }
-    ensures output_after_2 { read_card (take result output.new) ≡ record { outcome = accepted; card = Bench.P } }
+    ensures bytes_are { (take result output.new ≡ card_p) × (drop result output.new ≡ drop result output.old) }
+    ensures read_as_p { read_card (take result output.new) ≡ record { outcome = accepted; card = Bench.P } }
 {
     listing::rewriting::rewrite(&STORED_P, output)
 }
@@ -42,8 +42,8 @@ pub fn t_stays_as_it_is(output: &mut [u8; REWRITING_ROOM]) -> usize
 
 // What is written of the first 19 bytes of P is the listing's line, which nobody can take for a card: `cards_only`.
 pub fn short_p_is_no_card(output: &mut [u8; REWRITING_ROOM]) -> usize
-    ensures output_after { take result output.new ≡ refused_line 1 19 }
-    ensures fact { (c : Card) → read_card (take result output.new) ≡ record { outcome = accepted; card = c } → ⊥ }
+    ensures line_is { take result output.new ≡ refused_line 1 19 }
+    ensures no_card { (c : Card) → read_card (take result output.new) ≡ record { outcome = accepted; card = c } → ⊥ }
 {
     listing::rewriting::rewrite(&P[..19], output)
 }
@@ -57,8 +57,9 @@ pub fn longest_is_read(input: &[u8; 2048], output: &mut [u8; REWRITING_ROOM]) ->
 
 // One more is too long, and what follows it changes nothing: `by_the_front`. There is always room.
 pub fn longer_is_too_long(front: &[u8; 2049], output: &mut [u8; REWRITING_ROOM]) -> usize
-    ensures output_after { take result output.new ≡ too_long_line }
-    ensures by_index { ((more : List ℕ) → take result output.new ≡ rewritten (front.now ++ more)) × (result ≤ longest_card) }
+    ensures line_is { take result output.new ≡ too_long_line }
+    ensures by_the_front { (more : List ℕ) → take result output.new ≡ rewritten (front.now ++ more) }
+    ensures has_room { result ≤ longest_card }
 {
     listing::rewriting::rewrite(front, output)
 }

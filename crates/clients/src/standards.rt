@@ -1,16 +1,13 @@
 // Clients of the promise of the standard cards.
-ghost use Rattle.std.specs.Prelude.{◌≡◌, [], ◌∷◌, ◌++◌, ◌≤◌, drop, pos, neg_ℤ};
+ghost use Rattle.std.specs.Prelude.{◌≡◌, Ok, [], ◌∷◌, ◌++◌, ◌≤◌, drop, pos, neg_ℤ};
 ghost use Rattle.code.specs.Bench.{s, Six};
 ghost use Rattle.card.specs.Bench.{card_p, card_q};
 ghost use Rattle.card.specs.Fields.{card_of};
-ghost use Rattle.card.specs.Outcome.{outcome_of};
-ghost use Rattle.card.specs.Outcome.Outcome.{accepted};
-ghost use Rattle.outcomes.specs.Outcome.{outcome};
-ghost use Rattle.writer.specs.Outcome.{answer_of};
+ghost use Rattle.outcomes.specs.Outcome.{outcome, answer_of};
 ghost use Rattle.standard.specs.Standard.{standard_fields};
 
-use card::{CardRead, CardRule};
-use writer::CardWritten;
+use card::{CardRule, Fault, Refusal};
+use code::Card;
 
 // P's bytes, but for the number: `terms_are`. What the output has beyond them is as it was.
 pub fn two_checks(output: &mut [u8; 22]) -> i32
@@ -20,27 +17,24 @@ pub fn two_checks(output: &mut [u8; 22]) -> i32
 }
 
 // Q's bytes, but for the number, from Rattle: `terms_are`. There is just room enough.
-pub fn three_checks(output: &mut [u8; 25]) -> CardWritten
+pub fn three_checks(output: &mut [u8; 25]) -> Result<usize, Refusal>
     ensures { outcome (answer_of result) output.new ≡ outcome (pos 25) (0 ∷ 3 ∷ drop 2 (card_q (s 0 ∷ s 1 ∷ s 3 ∷ []))) }
 {
     standard::write_standard(3, output)
 }
 
 // What is written is accepted, whichever of the cards it is, and is the card of the terms: `acceptable`. There is room for each: `length_is`.
-pub fn each_is_accepted(checks: u32) -> CardRead
-    ensures { 2 ≤ checks → checks ≤ 7 → (outcome_of result.verdict ≡ accepted) × (result.card ≡ card_of (standard_fields checks)) }
+pub fn each_is_accepted(checks: u32) -> Result<Card, Fault>
+    ensures { 2 ≤ checks → checks ≤ 7 → result ≡ Ok (card_of (standard_fields checks)) }
 {
     let mut output = [0; 45];
-    let written = standard::write_standard(checks, &mut output);
-    match written {
-        CardWritten::Count(count) => card::read_card(CardRule::Present, &output[..count]),
-        CardWritten::Refused(_) => card::read_card(CardRule::Present, b""),
-    }
+    let count = standard::write_standard(checks, &mut output).unwrap_or(0);
+    card::read_card(CardRule::Present, &output[..count])
 }
 
 // The card with six checks, of which rows at an edge speak.
-pub fn six_checks() -> CardRead
-    ensures { (outcome_of result.verdict ≡ accepted) × (result.card ≡ Six) }
+pub fn six_checks() -> Result<Card, Fault>
+    ensures { result ≡ Ok Six }
 {
     each_is_accepted(6)
 }

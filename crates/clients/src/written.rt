@@ -4,13 +4,11 @@ ghost use Rattle.code.specs.Bench as Bench;
 ghost use Rattle.card.specs.Bench.{card_p};
 ghost use Rattle.card.specs.Outcome.Outcome.{accepted};
 ghost use Rattle.card.specs.Reading.{read_card};
-ghost use Rattle.outcomes.specs.Outcome.{outcome};
-ghost use Rattle.writer.specs.Outcome.{answer_of};
+ghost use Rattle.outcomes.specs.Outcome.{outcome, answer_of};
 ghost use Rattle.clients.specs.Forms.{FormOfP};
 
 use crate::cards::{P, STORED_P, T};
-use card::CardRule;
-use writer::CardWritten;
+use card::{CardRule, Refusal};
 
 // P comes back byte for byte: `comes_back`. What the output has beyond it is as it was.
 pub fn p_comes_back(output: &mut [u8; 22]) -> i32
@@ -62,10 +60,10 @@ pub fn short_p_is_refused(output: &mut [u8; 1]) -> i32
 }
 
 // The card that P as stored is read as under the former rule, written: P's bytes, and each clause on the written form.
-pub fn p_is_written(output: &mut [u8; 22]) -> CardWritten
-    ensures output_after { outcome (answer_of result) output.new ≡ outcome (pos 20) (card_p ++ drop 20 output.old) }
+pub fn p_is_written(output: &mut [u8; 22]) -> Result<usize, Refusal>
+    ensures bytes_are { outcome (answer_of result) output.new ≡ outcome (pos 20) (card_p ++ drop 20 output.old) }
     ensures form_of_p { FormOfP }
 {
-    let read = card::read_card(CardRule::Former, &STORED_P);
-    writer::write_card(read.card, output)
+    let card = card::read_card(CardRule::Former, &STORED_P)?;
+    writer::write_card(card, output)
 }

@@ -1,10 +1,12 @@
-use Rattle.clients.proofs.ReceiverClauses.{opened-P-by-digits, receives-as-P-by-digits, receives-faint-as-P-by-digits, answers-as-P}
+use Rattle.outcomes.proofs.ReadCards.{read-P}
+use Rattle.digit_decoder.proofs.Example.{receives-P, receives-faint-P, answers-as-P}
+use Rattle.clients.proofs.ReceiverClauses.{opened, follows}
 use Rattle.clients.proofs.calls.p_receives_by_digits.Goals as goal
 
 pub returns : goal.returns
 returns c = (
-  opened-P-by-digits c.open.result c.open.ensures,
-  receives-as-P-by-digits c.open.result c.open.ensures,
-  receives-faint-as-P-by-digits c.open.result c.open.ensures,
-  answers-as-P c.open.result c.open.ensures,
+  opened read-P c.open.ensures,
+  follows read-P c.open.ensures receives-P,
+  follows read-P c.open.ensures receives-faint-P,
+  follows read-P c.open.ensures answers-as-P,
 )

@@ -1,5 +1,6 @@
-use Rattle.clients.proofs.ReceiverClauses.{closed-receives}
+use mathlib.Core.Path.{refl}
+use Rattle.clients.proofs.ReceiverClauses.{receives-nothing}
 use Rattle.clients.proofs.calls.short_p_receives.Goals as goal
 
 pub returns : goal.returns
-returns c = closed-receives c.open.result c.open.ensures
+returns c = receives-nothing (λ c n. refl) c.open.ensures

@@ -1,5 +1,6 @@
-use Rattle.clients.proofs.ReceiverClauses.{closed-receives_by_digits}
+use mathlib.Core.Path.{refl}
+use Rattle.clients.proofs.ReceiverClauses.{receives-nothing}
 use Rattle.clients.proofs.calls.short_p_receives_by_digits.Goals as goal
 
 pub returns : goal.returns
-returns c = closed-receives_by_digits c.open.result c.open.ensures
+returns c = receives-nothing (λ c n. refl) c.open.ensures

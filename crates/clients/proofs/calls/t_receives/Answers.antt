@@ -1,7 +1,9 @@
 use Rattle.card.specs.Bench.{checks}
-use Rattle.clients.proofs.ReceiverClauses.{receives-as-T}
+use Rattle.outcomes.proofs.ReadCards.{read-T}
+use Rattle.decoder.proofs.Example.{receives-T}
+use Rattle.clients.proofs.ReceiverClauses.{follows}
 use Rattle.clients.proofs.calls.t_receives.Goals as goal
 
 pub returns : goal.returns
 unfolding checks
-returns c = receives-as-T c.open.result c.open.ensures
+returns c = follows read-T c.open.ensures receives-T

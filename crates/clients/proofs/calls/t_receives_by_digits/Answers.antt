@@ -1,7 +1,9 @@
 use Rattle.card.specs.Bench.{checks}
-use Rattle.clients.proofs.ReceiverClauses.{receives-as-T-by-digits}
+use Rattle.outcomes.proofs.ReadCards.{read-T}
+use Rattle.digit_decoder.proofs.Example.{receives-T}
+use Rattle.clients.proofs.ReceiverClauses.{follows}
 use Rattle.clients.proofs.calls.t_receives_by_digits.Goals as goal
 
 pub returns : goal.returns
 unfolding checks
-returns c = receives-as-T-by-digits c.open.result c.open.ensures
+returns c = follows read-T c.open.ensures receives-T

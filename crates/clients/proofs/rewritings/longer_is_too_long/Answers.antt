@@ -5,4 +5,4 @@ use Rattle.clients.proofs.rewritings.longer_is_too_long.Goals as goal
 pub returns : goal.returns
 returns c =
     let promise = c.rewrite.ensures in
-    record { output_after = line-long promise (search rules); by_index = (front-enough promise (search rules), promise.wrote.within) }
+    record { line_is = line-long promise (search rules); by_the_front = front-enough promise (search rules); has_room = promise.wrote.within }

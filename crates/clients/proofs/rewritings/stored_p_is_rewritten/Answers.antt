@@ -5,4 +5,4 @@ use Rattle.clients.proofs.rewritings.stored_p_is_rewritten.Goals as goal
 pub returns : goal.returns
 returns c =
     let promise = c.rewrite.ensures in
-    record { output_after = (bytes-P promise, rest_kept promise.wrote); output_after_2 = value-P promise }
+    record { bytes_are = (bytes-P promise, rest_kept promise.wrote); read_as_p = value-P promise }

@@ -1,11 +1,9 @@
-use mathlib.Core.Path.{refl, ap, ◌∙◌}
-use lib.IntN.{ℤ}
-use Rattle.outcomes.specs.Outcome.{outcome}
-use Rattle.outcomes.proofs.Answers.{answer-is}
+use mathlib.Core.Path.{◌∙◌}
+use Rattle.outcomes.proofs.Answers.{outcome_is}
 use Rattle.clients.proofs.WriterClauses.{refused-P}
 use Rattle.clients.proofs.written.short_p_is_refused.Goals as goal
 
 pub returns : goal.returns
 returns c =
     let written = c.card_write in
-    ap (λ (z : ℤ). outcome z written.new.output) (answer-is written.result written.type_inv refl) ∙ written.ensures.output_after ∙ refused-P _
+    outcome_is written.result _ written.type_inv (written.ensures.output_after ∙ refused-P _)
