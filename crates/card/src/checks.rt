@@ -8,8 +8,8 @@ use crate::parts::Sizes;
 use crate::{Fault, Refusal, fields};
 use code::{CHECK_STRIDE, CHECK_WORDS, MOST_CHECKS};
 
-// The checks of every information stream, stored in the empty tables; the offset after them. One nest of loops over streams, checks and masks, which
-// the first refusal leaves by its label: so the project has it. They go by place, since the tables keep fixed strides.
+// The checks of every information stream, stored in the empty tables; the offset after them. The loops over streams, checks and masks are one nest
+// that is left by label at the first refusal: a form that the project's scope names. They go by place, since the tables keep fixed strides.
 pub(crate) fn read_checks(
     bytes: &[u8],
     start: usize,
