@@ -1,14 +1,13 @@
 -- A stored file in an audit, as the page has it.
 use Prim.Native.Nat.{ℕ, min}
 use mathlib.Core.Path.{◌≡◌, refl, ap, ◌∙◌}
-use mathlib.Core.Bool.{Bool, true, false, true≢false, false≢true}
 use mathlib.Core.List.{List, ◌++◌, append_assoc, append-nil}
 use lib.ListN.{length, take}
+use Rattle.std.specs.Prelude.{Option}
 use Rattle.outcomes.specs.Text.{text, decimal, spaced, line}
 use Rattle.outcomes.specs.Listing.{too_long_line, refused_line, line_of_end}
 use Rattle.listing.specs.AtFront.{AtFront}
-use Rattle.listing.specs.Auditing.{audit_room, name_in, not_read_line, fault_under, fault, audit_line, passes, Audits}
-use Rattle.listing.specs.declared.auditing.Audited as declared
+use Rattle.listing.specs.Auditing.{audit_room, name_in, not_read_line, fault_under, fault, audit_line, passes, line_count, passed, Audits}
 use Rattle.listing.proofs.AtFront.{front-is, rest_kept}
 use Rattle.listing.proofs.Audited.{not_read, too_long, short, not_read-fails, too_long-fails, refused-fails, refused-told}
 use Rattle.terms.specs.Terms.{Audited, AuditEnds}
@@ -32,39 +31,27 @@ unfolding text spaced line line_of_end
 end_line passed = simp (append_assoc, append-nil)
 
 -- ---- the promises
-module _ {bytes output after : List ℕ} {size : ℕ} {r : declared.Audited} where
+module _ {file : Option (List ℕ)} {output after : List ℕ} {size : ℕ} {r : Option ℕ} (promise : Audits file output size r after) where
   -- by why the file does not pass
-  told : {whole : Bool} (why : List ℕ) {l : List ℕ} → Audits whole bytes output size r after → fault whole bytes ≡ why → audit_line (name_in output size) why ≡ l → passes why ≡ 0
-      → (take r.count after ≡ l) × (r.passed ≡ 0)
-  told why promise is reads none = (front-is promise.told ∙ ap (audit_line (name_in output size)) is ∙ reads, promise.counted ∙ ap passes is ∙ none)
+  told : (why : List ℕ) {l : List ℕ} → fault file ≡ why → audit_line (name_in output size) why ≡ l → passes why ≡ 0
+      → (take (line_count r) after ≡ l) × (passed r ≡ 0)
+  told why is reads none = (front-is promise.told ∙ ap (audit_line (name_in output size)) is ∙ reads, promise.counted ∙ ap passes is ∙ none)
 
-  by-fault : (whole : Bool) → Audits whole bytes output size r after → Audited whole bytes (name_in output size) output r.count r.passed after
-  unfolding fault_under audit_line passes
-  by-fault false promise =
+  pub is-audited : Audited file (take (min size 131072) output) output (line_count r) (passed r) after
+  unfolding fault_under audit_line passes name_in
+  is-audited =
+      let name = name_in output size in
       record {
         rest_kept = rest_kept promise.told;
-        not_read = λ e. told not_read_line promise (not_read false bytes refl) (not-read-line (name_in output size)) not_read-fails;
-        too_long = λ e. absurd (false≢true e);
-        card_refused = λ number offset e. absurd (false≢true e);
-        card_passes = λ e. absurd (false≢true e);
-      }
-  by-fault true promise =
-      record {
-        rest_kept = rest_kept promise.told;
-        not_read = λ e. absurd (true≢false e);
-        too_long = λ e l. told too_long_line promise (too_long bytes l) (too-long-line (name_in output size)) too_long-fails;
-        card_refused = λ number offset e l o.
-            told (refused_line number offset) promise (short bytes l ∙ ap fault_under o) (refused-told (name_in output size) number offset ∙ refused-line (name_in output size) number offset)
+        not_read = λ e. told not_read_line (ap fault e ∙ not_read) (not-read-line name) not_read-fails;
+        too_long = λ bytes e l. told too_long_line (ap fault e ∙ too_long bytes l) (too-long-line name) too_long-fails;
+        card_refused = λ bytes number offset e l o.
+            told (refused_line number offset) (ap fault e ∙ short bytes l ∙ ap fault_under o) (refused-told name number offset ∙ refused-line name number offset)
             (refused-fails number offset);
-        card_passes = λ e o.
-            let none = promise.good_passes o in
-            (promise.told.count_is ∙ ap (λ (f : List ℕ). length (audit_line (name_in output size) f)) none, promise.counted ∙ ap passes none);
+        card_passes = λ bytes e o.
+            let none = promise.good_passes bytes e o in
+            (promise.told.count_is ∙ ap (λ (f : List ℕ). length (audit_line name f)) none, promise.counted ∙ ap passes none);
       }
-
-pub is-audited : {whole : Bool} {bytes output after : List ℕ} {size : ℕ} {r : declared.Audited} → Audits whole bytes output size r after
-    → Audited whole bytes (take (min size 131072) output) output r.count r.passed after
-unfolding name_in
-is-audited {whole} promise = by-fault whole promise
 
 pub ends : {output after : List ℕ} (passed : ℕ) {n : ℕ} → AtFront audit_room (line_of_end passed) output n after → AuditEnds passed output n after
 ends passed w = record { rest_kept = rest_kept w; told = front-is w ∙ end_line passed }

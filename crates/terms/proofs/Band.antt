@@ -1,10 +1,10 @@
 -- R-7's last sentence: where no level that is looked at lies within the band, the rule's answers are those of the former reading.
-use Prim.Native.Nat.{ℕ, zero, suc, ◌+◌, ◌*◌, ◌^◌, ◌≤◌, ◌<◌}
-use mathlib.Core.Path.{◌≡◌, refl, sym, ap, ap₂, ◌∙◌, subst}
+use Prim.Native.Nat.{ℕ, zero, suc, ◌+◌, ◌*◌, ◌^◌, ◌≤◌}
+use mathlib.Core.Path.{◌≡◌, refl, sym, ap, ap₂, ◌∙◌}
 use mathlib.Core.Bool.{Bool, true, false, cond, ◌||◌}
 use mathlib.Core.List.{List, [], ◌∷◌, map}
 use native.Mathlib.Omega.{arith}
-use lib.ListN.{length, get_or}
+use lib.ListN.{get_or}
 use lib.Dec.{leb, ltb, eqb}
 use lib.IntN.{ℤ}
 use lib.Ieee.{nan, inf, fin, up, down}
@@ -13,12 +13,11 @@ use borrow.Author.Tests.{le-ltb, lt-leb, ne_eqb}
 use Rattle.bits.specs.Digits.{from_digits}
 use Rattle.bits.proofs.Digits.{from_digits-lt, from_digits-same}
 use Rattle.code.specs.declared.Card.{Card}
-use Rattle.receiving.specs.Answers.{Given, waiting, frame}
-use Rattle.receiving.specs.Answers as answer
+use Rattle.receiving.specs.Answers.{Given}
 use Rattle.receiving.specs.Calls.{Call, byte, readings}
 use Rattle.receiving.specs.declared.Reading.{Reading}
 use Rattle.receiving.specs.declared.Reading.TheVariants.{Level, Erased}
-use Rattle.terms.specs.Terms.{when, first, Decided, handed, digits_of, refusal, taken_calls, frames_taken, erased_taken}
+use Rattle.terms.specs.Terms.{handed, digits_of, refusal, taken_calls, frames_taken}
 use Rattle.terms.proofs.Calls.{is, is_le}
 use Rattle.terms.specs.Terms.{answers_to, ByTheRule, read_now, read_before, Outside}
 

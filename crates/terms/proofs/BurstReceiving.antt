@@ -1,20 +1,19 @@
 -- A received burst, by the page.
-use Prim.Native.Nat.{ℕ, suc, ◌+◌, ◌-◌, ◌^◌, ◌≤◌, ◌<◌}
-use mathlib.Core.Path.{◌≡◌, refl, sym, ap, ◌∙◌, subst}
-use mathlib.Core.Bool.{Bool, false, cond, ◌||◌}
+use Prim.Native.Nat.{ℕ, suc, ◌+◌, ◌-◌, ◌^◌, ◌<◌}
+use mathlib.Core.Path.{◌≡◌, refl, ◌∙◌}
+use mathlib.Core.Bool.{false, cond}
 use mathlib.Core.List.{List, [], ◌∷◌}
-use lib.ListN.{length, get_or, take}
-use lib.Dec.{leb, ltb}
-use lib.IntN.{ℤ, pos}
+use lib.ListN.{length, get_or}
+use lib.Dec.{ltb}
+use lib.IntN.{ℤ}
 use borrow.Author.Tests.{lt-leb}
 use Rattle.bits.specs.Digits.{any_beyond}
 use Rattle.code.specs.Code.{most_frames}
-use Rattle.code.specs.Guarantees.{Guarantees}
 use Rattle.code.specs.declared.Card.{Card}
-use Rattle.card.specs.Outcome.{accepted}
 use Rattle.card.specs.Promise.{CardPromise}
 use Rattle.card.specs.Reading.{read_card}
-use Rattle.card.specs.declared.CardRead.{CardRead}
+use Rattle.std.specs.Prelude.{Result}
+use Rattle.card.specs.declared.Fault.{Fault}
 use Rattle.card.specs.declared.CardRule.TheVariants.{Present}
 use Rattle.majority.specs.Rule as rule
 use Rattle.majority.specs.Plain.{decoded}
@@ -23,7 +22,7 @@ use Rattle.outcomes.specs.Claims.{ComesOutAsSent}
 use Rattle.outcomes.specs.Outcome.{outcome, refused_of, given_of, with_room}
 use Rattle.outcomes.specs.Receiving.{receive_under, receive_of}
 use Rattle.outcomes.proofs.Received.{guaranteed}
-use Rattle.terms.specs.Terms.{beyond, WholeStream, FewWrong, BurstReceived}
+use Rattle.terms.specs.Terms.{beyond, BurstReceived}
 use Rattle.terms.proofs.Rule.{decided-is, few-of-checks}
 use Rattle.terms.proofs.Told.{beyond-is, told-first, card_refused, card_accepted}
 
@@ -39,7 +38,7 @@ under-card : (c : Card) (input output : List ℕ)
 unfolding receive_under with_room
 under-card c input output = rw (beyond-is, decoded-length c input)
 
-module _ (card input output : List ℕ) (answer : ℤ) (after : List ℕ) (read : CardRead) (card-promise : CardPromise Present card read)
+module _ (card input output : List ℕ) (answer : ℤ) (after : List ℕ) (read : Result Card Fault) (card-promise : CardPromise Present card read)
     (is : outcome answer after ≡ receive_of card input output) (as-sent : ComesOutAsSent card input output answer after) where
   pub burst-received : BurstReceived (read_card card) input output answer after
   unfolding receive_of rule.decoded rule.corrected

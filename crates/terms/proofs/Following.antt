@@ -8,7 +8,7 @@ use mathlib.Core.List.{List, [], ◌∷◌, ◌++◌, map, append_assoc}
 use native.Mathlib.Omega.{arith}
 use lib.ListN.{length, get_or, drop, length-append, length-map, drop_of_length-le}
 use lib.Seq.{drop-cons}
-use lib.Dec.{ltb, eqb}
+use lib.Dec.{ltb}
 use borrow.Author.Tests.{eq-eqb, ne_eqb}
 use Rattle.bits.proofs.Cases.{le-or-lt}
 use Rattle.code.specs.Guarantees.{Guarantees}
@@ -19,7 +19,7 @@ use Rattle.receiving.specs.Calls as call
 use Rattle.receiving.specs.Calls.{Call, reply_of, taken_parts, taken_frames, taken_answers, answers, session_after}
 use Rattle.receiving.specs.Readings.{yields, refuses}
 use Rattle.receiving.specs.Receive.{Circuit, refused_of}
-use Rattle.receiving.proofs.Outcomes.{admission, outcome, reply-taken, reply-refused}
+use Rattle.receiving.proofs.Outcomes.{admission, outcome, reply-refused}
 use Rattle.terms.specs.Terms.{refusal, taken_calls, answers_to, read_now}
 use Rattle.terms.proofs.Calls.{admission-is}
 use Rattle.terms.proofs.Told.{settled, settled-some}

@@ -1,7 +1,7 @@
 -- A good card, as the page has it: its limits and orthogonality against those of an acceptable card, and what reading comes to.
 use Prim.Native.Nat.{ℕ, ◌-◌, ◌≤◌, ◌<◌}
 use mathlib.Core.Path.{◌≡◌, sym, ap, ◌∙◌}
-use mathlib.Core.List.{List, [], ◌∷◌}
+use mathlib.Core.List.{List, []}
 use mathlib.Core.Logic.{⊎_elim}
 use native.Mathlib.Omega.{arith}
 use lib.ListN.{length, get_or}
@@ -15,7 +15,8 @@ use Rattle.card.specs.Layout.{MasksIn, AllMasksIn, StreamIn, AllStreamsIn, Defau
 use Rattle.card.specs.Outcome.{published}
 use Rattle.card.specs.Promise.{CardPromise}
 use Rattle.card.specs.Written.{stated}
-use Rattle.card.specs.declared.CardRead as declared
+use Rattle.std.specs.Prelude.{Result}
+use Rattle.card.specs.declared.Fault.{Fault}
 use Rattle.card.specs.declared.CardRule.{CardRule}
 use Rattle.card.specs.declared.CardRule.TheVariants.{Former, Present}
 use Rattle.card.proofs.Defaults.{stated-most, default-stated, stated-default, none-changes}
@@ -184,7 +185,7 @@ module _ (rule : CardRule) {bytes : List ℕ} {f : Fields} where
       }
 
 -- ---- reading
-pub card-read : (rule : CardRule) {bytes : List ℕ} {r : declared.CardRead} → CardPromise rule bytes r → CardRead rule bytes (published r)
+pub card-read : (rule : CardRule) {bytes : List ℕ} {r : Result Card Fault} → CardPromise rule bytes r → CardRead rule bytes (published r)
 card-read rule promise =
     record {
       is_read = promise.is_read;

@@ -1,16 +1,17 @@
 -- What opening a session of each circuit with the same bytes comes to, by the page.
 use Prim.Native.Nat.{ℕ}
-use mathlib.Core.Path.{◌≡◌, refl, sym, ap, ap₂, ◌∙◌, subst}
+use mathlib.Core.Path.{◌≡◌, refl, sym, ap, ap₂, ◌∙◌}
 use mathlib.Core.Logic.{⊎_elim}
 use mathlib.Core.List.{List}
-use lib.ListN.{length}
 use Rattle.bits.proofs.Cases.{same_or_not}
-use Rattle.code.specs.Guarantees.{Guarantees}
 use Rattle.code.specs.declared.Card.{Card}
 use Rattle.card.specs.Outcome.{Outcome, accepted, refused}
 use Rattle.card.specs.Promise.{CardPromise}
 use Rattle.card.specs.Reading.{read_card}
-use Rattle.card.specs.declared.CardRead.{CardRead}
+use Rattle.std.specs.Prelude.{Result}
+use Rattle.card.specs.declared.Fault.{Fault}
+use Rattle.card.specs.declared.Opened as declared
+use Rattle.receiving.specs.declared.Session.{Session}
 use Rattle.card.specs.declared.CardRule.TheVariants.{Present}
 use Rattle.majority.specs.Rule as rule
 use Rattle.outcomes.proofs.Received.{guaranteed}
@@ -22,11 +23,11 @@ use Rattle.receiving.specs.Receive.{Circuit, open_of, refused_of}
 use Rattle.decoder.specs.Claims as first-claims
 use Rattle.decoder.specs.Opening as first_opening
 use Rattle.decoder.specs.Receive.{first_circuit}
-use Rattle.decoder.specs.declared.Opened as first-opened
+use Rattle.decoder.specs.declared.Held as first-held
 use Rattle.digit_decoder.specs.Claims as second-claims
 use Rattle.digit_decoder.specs.Opening as second-opening
 use Rattle.digit_decoder.specs.Receive.{second_circuit}
-use Rattle.digit_decoder.specs.declared.Opened as second-opened
+use Rattle.digit_decoder.specs.declared.Held as second-held
 use Rattle.terms.specs.Terms.{frames_taken, erased_taken, read_now, Opened}
 use Rattle.terms.proofs.Rule.{decided-is, figure-is}
 use Rattle.terms.proofs.Receiving.{frames-are, erased-are, receives}
@@ -52,8 +53,8 @@ module _ {S : Type 0} (x : Circuit S) (Claims : Card → S → Type 0) (carded :
       let shut = promise.shut number offset (promise.verdict_is ∙ e) in
       (λ ne. shut.other_refused call (λ q. ne (q ∙ number_is)), λ q. shut.own_refused call (q ∙ sym number_is))
 
-module _ (bytes : List ℕ) (read : CardRead) (card-promise : CardPromise Present bytes read) (r : first-opened.Opened) (promise : first_opening.OpenPromise bytes r)
-    (q : second-opened.Opened) (other : second-opening.OpenPromise bytes q) where
+module _ (bytes : List ℕ) (read : Result Card Fault) (card-promise : CardPromise Present bytes read) (r : declared.Opened (Session first-held.Held)) (promise : first_opening.OpenPromise bytes r)
+    (q : declared.Opened (Session second-held.Held)) (other : second-opening.OpenPromise bytes q) where
   first-claimed : (read_card bytes).outcome ≡ accepted → first-claims.Claims (read_card bytes).card r.session
   first-claimed = claimed first_circuit first-claims.Claims (λ c n. refl) bytes _ r.session promise
 

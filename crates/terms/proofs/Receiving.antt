@@ -1,7 +1,7 @@
 -- A receiving session that keeps to a rule (`receiving`, `Claims.ByRule`) receives as the page says, if the rule hands out what the majority rule does.
-use Prim.Native.Nat.{ℕ, ◌+◌, ◌-◌, ◌^◌, ◌≤◌, ◌<◌}
+use Prim.Native.Nat.{ℕ, ◌+◌, ◌-◌, ◌≤◌, ◌<◌}
 use mathlib.Core.Path.{◌≡◌, refl, sym, ap, ap₂, ◌∙◌, subst, fun_ext}
-use mathlib.Core.Bool.{Bool, cond}
+use mathlib.Core.Bool.{cond}
 use mathlib.Core.Logic.{⊎_elim}
 use mathlib.Core.List.{List, [], ◌∷◌, map}
 use native.Mathlib.Omega.{arith}
@@ -25,7 +25,7 @@ use Rattle.receiving.specs.Calls.{Call, taken_frames, taken_erased, answers, ans
 use Rattle.receiving.specs.Claims.{ByRule}
 use Rattle.receiving.specs.Receive.{Circuit}
 use Rattle.receiving.proofs.Answers.{answers-length, first-waiting, then-frames}
-use Rattle.terms.specs.Terms.{handed, frames_taken, erased_taken, taken_calls, ByTheRule, WholeStream, FewWrong, FewWrongOfVotes, frames_out, read_now, Receives}
+use Rattle.terms.specs.Terms.{handed, frames_taken, erased_taken, taken_calls, ByTheRule, WholeStream, frames_out, read_now, Receives}
 use Rattle.terms.proofs.Band.{as_before}
 use Rattle.terms.proofs.Calls.{frame_is, erased-is}
 use Rattle.terms.proofs.Following as following

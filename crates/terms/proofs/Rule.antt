@@ -1,20 +1,20 @@
 -- The rule as the page says it is the rule of `majority`: its votes, its checks, what it decides and hands out, and the condition of the third term.
-use Prim.Native.Nat.{ℕ, zero, suc, ◌+◌, ◌-◌, ◌*◌, ◌%◌, ◌/◌, ◌^◌, ◌≤◌, ◌<◌, min}
+use Prim.Native.Nat.{ℕ, zero, suc, ◌+◌, ◌-◌, ◌*◌, ◌%◌, ◌/◌, ◌≤◌, ◌<◌, min}
 use mathlib.Core.Path.{◌≡◌, refl, sym, ap, ap₂, ◌∙◌, subst}
 use mathlib.Core.Bool.{cond}
 use mathlib.Core.Logic.{⊎_elim}
-use mathlib.Core.List.{List, []}
+use mathlib.Core.List.{List}
 use native.Mathlib.Omega.{arith}
-use lib.ListN.{length, get_or, take}
+use lib.ListN.{length, take}
 use lib.Seq.{take_all, take-append-le}
 use lib.Dec.{ltb}
-use Rattle.bits.specs.Sums.{sum_below, up_to, grown}
+use Rattle.bits.specs.Sums.{sum_below, grown}
 use Rattle.bits.specs.Digits.{bit}
 use Rattle.bits.proofs.Cases.{last-or-below}
 use Rattle.bits.proofs.Lists.{grown-length}
 use Rattle.bits.proofs.Sums.{sum-cong}
 use Rattle.code.specs.Code.{digit, parity_at}
-use Rattle.code.specs.Checks.{count, check_mask, touches, besides}
+use Rattle.code.specs.Checks.{count, check_mask, touches}
 use Rattle.code.specs.Judging.{clashes}
 use Rattle.code.specs.Guarantees.{Guarantees}
 use Rattle.code.specs.declared.Card.{Card}
@@ -23,7 +23,7 @@ use Rattle.majority.specs.AsSent as sent
 use Rattle.majority.specs.Plain.{NoneErased}
 use Rattle.majority.proofs.Streams.{decided-digit}
 use Rattle.majority.proofs.Plain.{former}
-use Rattle.terms.specs.Terms.{own, syndrome, check, votes, Decided, handed, figure, wrong, FewWrong, FewWrongOfVotes}
+use Rattle.terms.specs.Terms.{own, syndrome, check, votes, Decided, figure, wrong, FewWrong, FewWrongOfVotes}
 use Rattle.terms.proofs.Own.{besides-is, own_is}
 
 -- what was worked out first is the front of the whole

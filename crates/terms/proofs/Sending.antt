@@ -18,7 +18,9 @@ use Rattle.code.proofs.Sent.{sent-length}
 use Rattle.code.specs.Guarantees.{Guarantees}
 use Rattle.card.specs.Promise.{CardPromise}
 use Rattle.card.specs.Reading.{read_card}
-use Rattle.card.specs.declared.CardRead.{CardRead}
+use Rattle.std.specs.Prelude.{Result}
+use Rattle.card.specs.declared.Fault.{Fault}
+use Rattle.card.specs.declared.Opened.{Opened}
 use Rattle.card.specs.declared.CardRule.TheVariants.{Present}
 use Rattle.encoder.specs.Outcome.{Outcome, frame, refused, SendOutcome}
 use Rattle.encoder.specs.Sending.{tail_begun, lacks_room, digit_beyond, tail_out, refused_of, encoded_of, send_tail_of}
@@ -26,7 +28,6 @@ use Rattle.encoder.specs.Sending as sender
 use Rattle.encoder.specs.Calls.{Call, information, tail, call_of, given_by, frames_given, takes, information_taken, tail_taken, session_after, answers}
 use Rattle.encoder.specs.Claims.{Claims}
 use Rattle.encoder.specs.Opening.{OpenPromise}
-use Rattle.encoder.specs.declared.Opened.{Opened}
 use Rattle.encoder.specs.declared.Session.{Session}
 use Rattle.encoder.proofs.Outcomes.{send-taken, tail-taken}
 use Rattle.outcomes.specs.Outcome.{outcome, with_room}
@@ -127,7 +128,7 @@ module _ (c : Card) (G : Guarantees c) (s : Session) (claims : Claims c s) where
 
 -- ---- the session that opening gives
 
-pub sends : (bytes : List ℕ) (read : CardRead) → CardPromise Present bytes read → (r : Opened) → OpenPromise bytes r → Sends (read_card bytes) r.session
+pub sends : (bytes : List ℕ) (read : Result Card Fault) → CardPromise Present bytes read → (r : Opened Session) → OpenPromise bytes r → Sends (read_card bytes) r.session
 unfolding information_taken tail_taken session_after
 sends bytes read card r promise =
     record {

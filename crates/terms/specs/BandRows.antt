@@ -1,7 +1,7 @@
 -- R-7 at its edges: what levels yield now and what they yielded before, by their patterns as f32, and which readings lie outside the band.
 -- Assumes nothing.
-use Rattle.std.specs.Prelude.{ℕ, ◌≡◌, [], ◌∷◌, map, replicate}
-use Rattle.receiving.specs.Calls.{byte, readings}
+use Rattle.std.specs.Prelude.{◌≡◌, [], ◌∷◌, map, replicate}
+use Rattle.receiving.specs.Calls.{readings}
 use Rattle.receiving.specs.LevelRows.{levels_of, quarters, near_zero, far_out}
 use Rattle.receiving.specs.declared.Reading.TheVariants.{Erased}
 use Rattle.terms.specs.Terms.{read_now, read_before, Outside}

@@ -5,7 +5,7 @@
 -- card's fields, their bytes and the card that they state, and reading, front to back (`card`: `Fields`, `Layout`, `Reading`); a list of calls, each of which
 -- gets the session that the one before handed back (`encoder`, `receiving`: `Calls`). Streams and times are counted from 0.
 -- Assumes nothing.
-use Rattle.std.specs.Prelude.{ℕ, zero, suc, ◌+◌, ◌-◌, ◌*◌, ◌%◌, ◌^◌, ◌≤◌, ◌<◌, min, max, ◌≡◌, Bool, true, false, cond, not, ◌&&◌, ◌||◌, List, [], ◌∷◌, ◌++◌, map, length, get_or, take, drop, leb, ltb, eqb, ℤ, pos, neg_ℤ}
+use Rattle.std.specs.Prelude.{ℕ, zero, suc, ◌+◌, ◌-◌, ◌*◌, ◌%◌, ◌^◌, ◌≤◌, ◌<◌, min, max, ◌≡◌, Bool, false, cond, not, ◌&&◌, ◌||◌, List, [], ◌∷◌, ◌++◌, map, length, get_or, take, drop, leb, ltb, eqb, ℤ, pos, neg_ℤ, Option, Some, None}
 use Rattle.std.specs.Float.{nan, inf, fin}
 use Rattle.std.specs.Float.Ieee.{up, down}
 use Rattle.bits.specs.Sums.{sum_below, up_to}
@@ -15,7 +15,7 @@ use Rattle.code.specs.Checks.{count, check_mask, touches, touches_by}
 use Rattle.code.specs.declared.Card.{Card}
 use Rattle.card.specs.Fields.{Head, Stream, Fields, card_of}
 use Rattle.card.specs.Layout.{layout}
-use Rattle.card.specs.Outcome.{Outcome, accepted, refused, CardOutcome}
+use Rattle.card.specs.Outcome.{accepted, refused, CardOutcome}
 use Rattle.card.specs.Reading.{read_under, read_card}
 use Rattle.card.specs.declared.CardRule.{CardRule}
 use Rattle.card.specs.declared.CardRule.TheVariants.{Former, Present}
@@ -27,11 +27,12 @@ use Rattle.receiving.specs.Answers as answer
 use Rattle.receiving.specs.Calls.{Call, byte, readings, number_in, reply_of, answers, session_after}
 use Rattle.receiving.specs.Receive.{Circuit, refused_of}
 use Rattle.receiving.specs.declared.Reading.{Reading}
+use Rattle.receiving.specs.declared.Session.{Session}
 use Rattle.receiving.specs.declared.Reading.TheVariants.{Level, Erased}
 use Rattle.decoder.specs.Receive.{first_circuit, link_figure_of}
-use Rattle.decoder.specs.declared.Session as first-circuit
+use Rattle.decoder.specs.declared.Held as first-circuit
 use Rattle.digit_decoder.specs.Receive.{second_circuit}
-use Rattle.digit_decoder.specs.declared.Session as second-circuit
+use Rattle.digit_decoder.specs.declared.Held as second-circuit
 use Rattle.outcomes.specs.Text.{text, decimal}
 use Rattle.orthogonal.specs.Pass.{holds}
 
@@ -248,7 +249,7 @@ figure c frames errors =
     sum_below c.p (λ j. sum_below (length frames - u) (λ a. syndrome c frames (take u errors) (u + a) j))
 
 -- a session of each circuit, opened with the same bytes
-pub record Opened (read : CardOutcome) (s : first-circuit.Session) (r : second-circuit.Session) : Type 0 where
+pub record Opened (read : CardOutcome) (s : Session first-circuit.Held) (r : Session second-circuit.Held) : Type 0 where
   pub receives : read.outcome ≡ accepted → Receives first_circuit read.card s
   pub figured : read.outcome ≡ accepted → (calls : List Call) →
       let c = read.card in
@@ -382,15 +383,15 @@ pub record StandardCard (J : ℕ) (output : List ℕ) (answer : ℤ) (after : Li
 
 -- ==== R-13: an audit of stored card files
 
--- a file that was read to its end, or not, and has these bytes; its name stands at the front of the output. "for each refused one its name, a space and the
+-- a file by its bytes, if it was read to its end; its name stands at the front of the output. "for each refused one its name, a space and the
 -- listing's refusal line, with `input too long` above 2,048 bytes and `not read` where reading fails"; and what it adds to "the count that pass"
-pub record Audited (whole : Bool) (bytes name output : List ℕ) (n passed : ℕ) (after : List ℕ) : Type 0 where
+pub record Audited (file : Option (List ℕ)) (name output : List ℕ) (n passed : ℕ) (after : List ℕ) : Type 0 where
   pub rest_kept : drop n after ≡ drop n output
-  pub not_read : whole ≡ false → (take n after ≡ name ++ text " not read\n") × (passed ≡ 0)
-  pub too_long : whole ≡ true → 2048 < length bytes → (take n after ≡ name ++ text " input too long\n") × (passed ≡ 0)
-  pub card_refused : (number offset : ℕ) → whole ≡ true → length bytes ≤ 2048 → (read_card bytes).outcome ≡ refused number offset
+  pub not_read : file ≡ None → (take n after ≡ name ++ text " not read\n") × (passed ≡ 0)
+  pub too_long : (bytes : List ℕ) → file ≡ Some bytes → 2048 < length bytes → (take n after ≡ name ++ text " input too long\n") × (passed ≡ 0)
+  pub card_refused : (bytes : List ℕ) (number offset : ℕ) → file ≡ Some bytes → length bytes ≤ 2048 → (read_card bytes).outcome ≡ refused number offset
       → (take n after ≡ name ++ (text " refused " ++ (decimal number ++ (text " at " ++ (decimal offset ++ text "\n"))))) × (passed ≡ 0)
-  pub card_passes : whole ≡ true → (read_card bytes).outcome ≡ accepted → (n ≡ 0) × (passed ≡ 1)
+  pub card_passes : (bytes : List ℕ) → file ≡ Some bytes → (read_card bytes).outcome ≡ accepted → (n ≡ 0) × (passed ≡ 1)
 
 -- "and last `end` and the count that pass"
 pub record AuditEnds (passed : ℕ) (output : List ℕ) (n : ℕ) (after : List ℕ) : Type 0 where

@@ -2,7 +2,8 @@
 ghost use Rattle.card.specs.Reading.{read_card};
 ghost use Rattle.terms.specs.Terms.{BurstSent, BurstReceived};
 
-use card::{CardRead, CardRule};
+use card::{CardRule, Fault};
+use code::Card;
 
 pub fn send(card: &[u8], input: &[u8], output: &mut [u8]) -> i32
     ensures { BurstSent (read_card card.now) input.now output.old result output.new }
@@ -13,7 +14,7 @@ pub fn send(card: &[u8], input: &[u8], output: &mut [u8]) -> i32
 // The card that was read, and what receiving by it answers.
 #[derive(Clone, Copy)]
 pub struct Received {
-    pub read: CardRead,
+    pub read: Result<Card, Fault>,
     pub answer: i32,
 }
 

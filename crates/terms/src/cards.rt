@@ -1,17 +1,19 @@
 // Cards: read, written, audited, and the standard ones; the pass over a check.
 ghost use Rattle.std.specs.Prelude.{min, take};
 ghost use Rattle.card.specs.Outcome.{published};
+ghost use Rattle.listing.specs.Auditing.{bytes_of, line_count, passed};
 ghost use Rattle.orthogonal.specs.Judgements.{judgement_number};
 ghost use Rattle.orthogonal.specs.Pass.{word_code, information_streams, parity_streams, first_masks};
 ghost use Rattle.terms.specs.Terms as term;
 
-use card::{CardRead, CardRule};
+use card::{CardRule, Fault};
+use code::Card;
 use listing::auditing;
-use listing::auditing::{AUDIT_ROOM, Audited};
+use listing::auditing::AUDIT_ROOM;
 use listing::rewriting::REWRITING_ROOM;
-use orthogonal::Judgement;
+use orthogonal::Failure;
 
-pub fn read(rule: CardRule, bytes: &[u8]) -> CardRead
+pub fn read(rule: CardRule, bytes: &[u8]) -> Result<Card, Fault>
     ensures { term.CardRead rule bytes.now (published result) }
 {
     card::read_card(rule, bytes)
@@ -31,7 +33,7 @@ pub fn pass(
     k: usize,
     p: usize,
     i: usize,
-) -> Judgement
+) -> Result<(), Failure>
     ensures { term.Passes (word_code generators.now (information_streams k) (parity_streams k p)) i (first_masks (parity_streams k p) masks.now)
         touched.old (judgement_number result) touched.new }
 {
@@ -45,10 +47,10 @@ pub fn rewrite(input: &[u8], output: &mut [u8; REWRITING_ROOM]) -> usize
 }
 
 // No name is longer than 131,072 bytes (`listing/Auditing: most_name`).
-pub fn audit(whole: bool, bytes: &[u8], output: &mut [u8; AUDIT_ROOM], size: usize) -> Audited
-    ensures { term.Audited whole bytes.now (take (min size 131072) output.old) output.old result.count result.passed output.new }
+pub fn audit(file: Option<&[u8]>, output: &mut [u8; AUDIT_ROOM], size: usize) -> Option<usize>
+    ensures { term.Audited (bytes_of file.entry) (take (min size 131072) output.old) output.old (line_count result) (passed result) output.new }
 {
-    auditing::audit(whole, bytes, output, size)
+    auditing::audit(file, output, size)
 }
 
 pub fn audit_end(output: &mut [u8; AUDIT_ROOM], passed: usize) -> usize

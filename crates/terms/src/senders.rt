@@ -6,18 +6,19 @@ ghost use Rattle.encoder.specs.Calls as sending;
 ghost use Rattle.encoder.specs.Outcome.{published};
 ghost use Rattle.terms.specs.Terms.{Sends};
 
-use card::{CardRead, CardRule};
-use encoder::{Sent, Session};
+use card::{CardRule, Fault, Refusal};
+use code::Card;
+use encoder::Session;
 
 // What the same bytes give: the card, and a session.
 #[derive(Clone, Copy)]
 pub struct Opened {
-    pub read: CardRead,
-    pub sender: encoder::Opened,
+    pub read: Result<Card, Fault>,
+    pub sender: card::Opened<Session>,
 }
 
 pub fn open(card: &[u8]) -> Opened
-    ensures verdict_value { outcome_of result.sender.verdict ≡ (read_card card.now).outcome }
+    ensures verdict { outcome_of result.sender.verdict ≡ (read_card card.now).outcome }
     ensures sends { Sends (read_card card.now) result.sender.session }
 {
     let read = card::read_card(CardRule::Present, card);
@@ -25,14 +26,16 @@ pub fn open(card: &[u8]) -> Opened
     Opened { read, sender }
 }
 
-pub fn send(s: Session, info: u8) -> Sent
-    ensures { published result ≡ sending.call_of s (sending.information info) }
+#[tactic(auto, unfolding(encoder::specs::Calls::call_of))]
+pub fn send(session: &mut Session, info: u8) -> Result<u8, Refusal>
+    ensures { published result session.new ≡ sending.call_of session.old (sending.information info) }
 {
-    encoder::send(s, info)
+    session.send(info)
 }
 
-pub fn send_tail(s: Session) -> Sent
-    ensures { published result ≡ sending.call_of s sending.tail }
+#[tactic(auto, unfolding(encoder::specs::Calls::call_of))]
+pub fn send_tail(session: &mut Session) -> Result<u8, Refusal>
+    ensures { published result session.new ≡ sending.call_of session.old sending.tail }
 {
-    encoder::send_tail(s)
+    session.send_tail()
 }

@@ -8,4 +8,4 @@ pub returns : goal.returns
 returns c =
     let written = c.card_write in
     rw (answer-is written.result written.type_inv refl)
-    (card-written c.args.card.now _ (λ i. omega (arith, c.shared_slice_known-1.given i)) written.ensures.output_after written.ensures.carries_on)
+    (card-written c.args.card.now _ (λ i. omega (arith, c.type_inv.card i)) written.ensures.output_after written.ensures.carries_on)

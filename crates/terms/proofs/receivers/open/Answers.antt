@@ -7,7 +7,7 @@ returns c =
     let first = c.open-first in
     let second = c.open-second in
     record {
-      verdict_value = first.ensures.verdict_is;
-      verdict_value_2 = second.ensures.verdict_is;
+      first_verdict = first.ensures.verdict_is;
+      second_verdict = second.ensures.verdict_is;
       opened = opened _ read.result read.ensures first.result first.ensures second.result second.ensures;
     }

@@ -1,6 +1,0 @@
-use Rattle.receiving.specs.Calls.{reply_of}
-use Rattle.terms.proofs.receivers.receive_byte_by_digits.Goals as goal
-
-pub returns : goal.returns
-unfolding reply_of
-returns c = c.receive_byte.ensures
