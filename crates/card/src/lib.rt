@@ -7,6 +7,7 @@ mod parts;
 
 ghost use Rattle.std.specs.Prelude.{◌≡◌};
 ghost use Rattle.orthogonal.specs.Judgements.{failure_number};
+ghost use Rattle.card.specs.Fields.{empty_card};
 ghost use Rattle.card.specs.Refusals.{number_of};
 ghost use Rattle.card.specs.Promise.{CardPromise};
 
@@ -86,6 +87,21 @@ impl From<Fault> for Refusal {
 pub struct Opened<S> {
     pub verdict: Result<(), Fault>,
     pub session: S,
+}
+
+// The card that stands for one that is refused: nothing is stated.
+pub fn empty_card() -> Card
+    ensures { result ≡ empty_card }
+{
+    Card {
+        number: 0,
+        k: 0,
+        p: 0,
+        m: 0,
+        generators: [0; 32],
+        counts: [0; 4],
+        checks: [0; CHECK_WORDS],
+    }
 }
 
 // A card read from its bytes, front to back; the first fault stops it.

@@ -7,7 +7,7 @@ ghost use Rattle.encoder.specs.Outcome.{published};
 ghost use Rattle.encoder.specs.Sending.{unsent_of, encoded_of, send_of, send_tail_of};
 
 use card::{CardRule, Opened, Refusal};
-use code::{CHECK_WORDS, Card, MOST_FRAMES};
+use code::{Card, MOST_FRAMES};
 
 // A session. What came before its first frame is zero, as the code says.
 #[derive(Clone, Copy)]
@@ -35,16 +35,7 @@ fn unsent(card: Card, sent: u32) -> Session
 fn closed() -> Session
     ensures { result ≡ closed }
 {
-    let empty = Card {
-        number: 0,
-        k: 0,
-        p: 0,
-        m: 0,
-        generators: [0u32; 32],
-        counts: [0u32; 4],
-        checks: [0u32; CHECK_WORDS],
-    };
-    unsent(empty, MOST_FRAMES as u32)
+    unsent(card::empty_card(), MOST_FRAMES as u32)
 }
 
 // Reads the card. A refused opening too hands a session out, which is closed: that is why the verdict stands beside it.

@@ -3,7 +3,6 @@
 #![tactic(auto)]
 
 ghost use Rattle.std.specs.Prelude.{◌≡◌, ℕ, min};
-ghost use Rattle.card.specs.Fields.{empty_card};
 ghost use Rattle.card.specs.Outcome.{outcome_of};
 ghost use Rattle.receiving.specs.Answers.{published};
 ghost use Rattle.receiving.specs.Opening.{counted_at, OpensFresh};
@@ -11,7 +10,7 @@ ghost use Rattle.receiving.specs.Readings.{yield_of, frame_yield_of, digit_of, r
 ghost use Rattle.receiving.specs.Receive.{admit_of, receive_of, receive_byte_of, receive_readings_of, circuit_of};
 
 use card::{CardRule, Fault, Opened, Refusal};
-use code::{CHECK_WORDS, Card, MOST_FRAMES};
+use code::{Card, MOST_FRAMES};
 
 // A level, or the mark 'erased'. A level close to zero is a guess, and is erased as well.
 // Not an Option: the interface has this type, by value, and an erased reading is no missing one.
@@ -68,28 +67,13 @@ pub fn frames_at_opening(verdict: Result<(), Fault>) -> u32
     }
 }
 
-// The card that stands for one that is refused. The encoder has its own, since no crate below both hands one out.
-fn empty_card() -> Card
-    ensures { result ≡ empty_card }
-{
-    Card {
-        number: 0,
-        k: 0,
-        p: 0,
-        m: 0,
-        generators: [0; 32],
-        counts: [0; 4],
-        checks: [0; CHECK_WORDS],
-    }
-}
-
 // Reads the card. A refused opening hands out a session with the empty card that refuses every call.
 pub fn open<H: Receives>(card: &[u8]) -> Opened<Session<H>>
     ensures { OpensFresh (circuit_of H.holding) card.now (outcome_of result.verdict) result.session }
 {
     let (verdict, card) = match card::read_card(CardRule::Present, card) {
         Ok(card) => (Ok(()), card),
-        Err(fault) => (Err(fault), empty_card()),
+        Err(fault) => (Err(fault), card::empty_card()),
     };
     let session = Session {
         card,
