@@ -1,7 +1,7 @@
 // Digits of 32-bit words. Every function is total: beyond a word or a table there are zeros.
 #![tactic(auto)]
 
-ghost use Rattle.std.specs.Prelude.{◌≡◌, ◌/◌, ◌^◌, ◌<◌, min, get_or, leb};
+ghost use Rattle.std.specs.Prelude.{◌≡◌, ◌/◌, ◌^◌, ◌<◌, get_or, leb};
 ghost use Rattle.bits.specs.Digits.{bit, shift_up, any_beyond};
 
 // Digit a of x.
@@ -45,32 +45,4 @@ pub fn any_beyond(frames: &[u8], n: usize) -> bool
 {
     // An or over all frames, and no branch in the loop: in a burst that is taken every frame has to be looked at anyway.
     beyond(frames.iter().fold(0, |all, frame| all | frame), n)
-}
-
-// x, held to a largest value.
-pub fn at_most(x: usize, most: usize) -> usize
-    ensures { result ≡ min x most }
-{
-    x.min(most)
-}
-
-// A byte as a word.
-pub fn wide(x: u8) -> u32
-    ensures { (result ≡ x) × (result < 256) }
-{
-    x as u32
-}
-
-// A byte as a size.
-pub fn size(x: u8) -> usize
-    ensures { (result ≡ x) × (result < 256) }
-{
-    x as usize
-}
-
-// A word as an index.
-pub fn index(x: u32) -> usize
-    ensures { result ≡ x }
-{
-    x as usize
 }
