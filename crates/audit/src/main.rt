@@ -64,10 +64,8 @@ fn audit_argument(rt: &(impl Env + Files), i: usize, output: &mut [u8; AUDIT_ROO
 {
     let size = rt.arg(i, output).unwrap_or(0);
     let mut buffer = [0u8; FRONT];
-    let file = match read_file(rt, output, size, &mut buffer) {
-        Some(length) => Some(&buffer[..length]),
-        None => None,
-    };
+    let length = read_file(rt, output, size, &mut buffer);
+    let file = length.map(|length| &buffer[..length]);
     auditing::audit(file, output, size)
 }
 

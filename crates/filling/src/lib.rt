@@ -18,6 +18,7 @@ pub fn fill<R: Read>(input: &mut R, buffer: &mut [u8]) -> Result<usize, usize>
     ensures end { IfOk result (λ n. n < length buffer.new → IsAtEnd (R.remaining input.new)) }
 {
     let mut at = 0;
+    // It goes on by as many as a read gives, which no range or iterator counts.
     while at < buffer.len() {
         match input.read(&mut buffer[at..]) {
             Err(_) => return Err(at),

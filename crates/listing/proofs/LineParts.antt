@@ -113,9 +113,6 @@ pub refused-parts : (number place : ℕ) → length (refused_line number place) 
 unfolding text spaced line refused_line
 refused-parts number place = simp length-append (omega arith)
 
-pub sizes-parts : (k n m : ℕ) → length (sizes k n m) ≡ 9 + (length (decimal k) + length (decimal n) + length (decimal m))
-sizes-parts k n m = simp length-append (omega arith)
-
 pub card-parts : (number k n m : ℕ)
     → length (card_line number k n m) ≡ 15 + (length (decimal number) + (length (decimal k) + length (decimal n) + length (decimal m)))
 unfolding text spaced line card_line

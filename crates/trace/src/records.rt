@@ -21,7 +21,7 @@ pub(crate) enum Record {
     Select(Receiver),
 }
 
-// The level of a bit pattern. Every NaN's pattern gives a NaN.
+// The level of a bit pattern. Every NaN's pattern gives a NaN: `from_bits` takes none.
 fn level(pattern: u32) -> f32 {
     if 0x7f80_0000 < pattern % 0x8000_0000 {
         return 0.0f32 / 0.0f32;
