@@ -1,11 +1,10 @@
 // The cases of receiving: document 01, "Checks" and "Readings and bursts", and the refusals 11, 13 and 14 in their orders. Those of readings
 // are in `levels`, those of 15 in `limits`.
-use crate::bursts::Call;
-use crate::tables::Kind;
-use crate::{drafts, levels, lines, tables};
+use crate::lines::Tally;
+use crate::{bursts, drafts, levels, lines, tables};
+use burst::receive::burst_receive;
 use code::MOST_FRAMES;
 use decoder::Session;
-use receiving::Answer;
 use std::io;
 
 pub(crate) fn cases(rt: &impl Print) -> io::Result<()> {
@@ -17,120 +16,53 @@ pub(crate) fn cases(rt: &impl Print) -> io::Result<()> {
     whole_bursts(rt)
 }
 
-// The verdict on the card of that letter. What each call answers comes after it.
-pub(crate) fn opened(rt: &impl Print, letter: u8) -> io::Result<Session> {
-    let draft = drafts::named(letter);
-    let bytes = draft.bytes;
-    let opened = decoder::open(lines::front(&bytes, draft.len));
-    let verdict = opened.verdict;
-    lines::verdict(rt, verdict)?;
-    Ok(opened.session)
-}
-
-pub(crate) fn answer(rt: &impl Print, came: Answer) -> io::Result<()> {
-    match came {
-        Answer::Waiting => lines::text(rt, b", waiting"),
-        Answer::Frame(frame) => lines::counted(rt, b", frame ", frame as u64),
-        Answer::Refused(refusal) => lines::refused(rt, b", refused ", refusal),
-    }
-}
-
-fn receive(rt: &impl Print, s: Session, number: u8, frame: u8) -> io::Result<Session> {
-    let received = decoder::receive_byte(s, number, frame);
-    let came = received.answer;
-    answer(rt, came)?;
-    Ok(received.session)
-}
-
-fn figure(rt: &impl Print, s: Session) -> io::Result<Session> {
-    lines::counted(rt, b", figure ", decoder::link_figure(s) as u64)?;
-    Ok(s)
-}
-
-// What a run of calls comes to: how often 'waiting' came, and how many frames.
-#[derive(Drop)]
-struct Run {
-    session: Session,
-    waiting: u32,
-    frames: u32,
-}
-
-// The frame 0 so many times.
-fn zeros(s: Session, times: u32) -> Run {
-    let card = s.card;
-    let number = card.number;
-    let mut session = s;
-    let mut waiting: u32 = 0;
-    let mut frames: u32 = 0;
-    for _ in 0..times {
-        let received = decoder::receive_byte(session, number, 0);
-        session = received.session;
-        let came = received.answer;
-        match came {
-            Answer::Waiting => waiting += 1,
-            Answer::Frame(_) => frames += 1,
-            Answer::Refused(_) => {}
-        }
-    }
-    Run {
-        session,
-        waiting,
-        frames,
-    }
-}
-
-fn receive_zeros(rt: &impl Print, s: Session, times: u32) -> io::Result<Session> {
-    let run = zeros(s, times);
-    lines::counted(rt, b", ", run.waiting as u64)?;
-    lines::counted(rt, b" waiting and ", run.frames as u64)?;
-    lines::text(rt, b" frames")?;
-    Ok(run.session)
-}
-
 // An `f` asks for the link figure, a `z` for the frame 0 thirty times, an `=` for it as often as a stream may have frames. Any other
 // letter is a frame as readings, by `levels::frame`. Any other byte is the frame, but for spaces and card numbers.
-fn step(rt: &impl Print, s: Session, number: u8, fed: u8) -> io::Result<Session> {
+fn step(rt: &impl Print, session: &mut Session, number: u8, fed: u8) -> io::Result<()> {
     match fed {
-        b' ' | b'0'..=b'9' => Ok(s),
-        b'f' => figure(rt, s),
-        b'z' => receive_zeros(rt, s, 30),
-        b'=' => receive_zeros(rt, s, MOST_FRAMES as u32),
-        b'A'..=b'Z' | b'a'..=b'z' => levels::receive(rt, s, number, levels::frame(fed)),
-        _ => receive(rt, s, number, fed),
+        b' ' | b'0'..=b'9' => Ok(()),
+        b'f' => print!(rt; ", figure {}", decoder::link_figure(session)),
+        b'z' => receive_zeros(rt, session, 30),
+        b'=' => receive_zeros(rt, session, MOST_FRAMES),
+        b'A'..=b'Z' | b'a'..=b'z' => {
+            lines::answer(rt, session.receive_readings(number, levels::frame(fed)))
+        }
+        frame => lines::answer(rt, session.receive_byte(number, frame)),
     }
 }
 
-// The card number that a call is under: a digit tells it for itself and those after it.
-fn number_at(number: u8, fed: u8) -> u8 {
-    match fed {
-        b'0'..=b'9' => fed - b'0',
-        _ => number,
-    }
+fn receive_zeros(rt: &impl Print, session: &mut Session, times: usize) -> io::Result<()> {
+    let number = session.card.number;
+    let Tally { waiting, frames } = Tally::of(times, || session.receive_byte(number, 0));
+    print!(rt; ", {waiting} waiting and {frames} frames")
 }
 
-// Under the session's own card number, where no other is told.
-fn steps(rt: &impl Print, s: Session, fed: &[u8]) -> io::Result<Session> {
-    let card = s.card;
-    let mut number = card.number;
-    let mut session = s;
-    for i in 0..fed.len() {
-        number = number_at(number, fed[i]);
-        session = step(rt, session, number, fed[i])?;
+// What a row feeds is the letter of a card, and the steps of the session. A digit tells the card number that the calls after it are under; till
+// then it is the session's own.
+fn row(rt: &impl Print, fed: &[u8]) -> io::Result<()> {
+    let [letter, steps @ ..] = fed else {
+        return Ok(());
+    };
+    let mut session = lines::session(rt, decoder::open(drafts::named(*letter).front()))?;
+    let mut number = session.card.number;
+    for &fed in steps {
+        if let b'0'..=b'9' = fed {
+            number = fed - b'0';
+        }
+        step(rt, &mut session, number, fed)?;
     }
-    Ok(session)
+    rt.write_all(b"\n")
 }
 
-// What a row feeds is the letter of a card, and the steps of the session.
-pub(crate) fn row(rt: &impl Print, fed: &[u8]) -> io::Result<()> {
-    steps(rt, opened(rt, tables::byte(fed, 0))?, tables::from(fed, 1))?;
-    lines::text(rt, b"\n")
+// A table of sessions, here, in `levels` and in `limits`.
+pub(crate) fn rows(rt: &impl Print, table: &[u8]) -> io::Result<()> {
+    tables::each(rt, table, |fed| row(rt, fed))
 }
 
 // The last ones with the link figure, before the first frame and after each.
 fn sessions(rt: &impl Print) -> io::Result<()> {
-    tables::each(
+    rows(
         rt,
-        Kind::Receiving,
         b"P receives 3, 3, 3, 2|P\x03\x03\x03\x02;\
           P receives 2, 2, 0, 0|P\x02\x02\x00\x00;\
           Q receives 2, 2, 0, 0|Q\x02\x02\x00\x00;\
@@ -148,9 +80,8 @@ fn sessions(rt: &impl Print) -> io::Result<()> {
 // Bytes and readings in one session; then calls under other card numbers. A refused call leaves the session as it was; 14 comes before 12
 // and before 11.
 fn mixed_sessions(rt: &impl Print) -> io::Result<()> {
-    tables::each(
+    rows(
         rt,
-        Kind::Receiving,
         b"P receives 3 as readings, 3, 3 as bytes, 2 as readings|Ph\x03\x03H;\
           P receives NaN under card number 8, then NaN, 3, 2 under 7|P 8 n 7 n\x03\x02;\
           P receives 3, 4 under card number 8, then 4, 3, 2 under 7|P 8 \x03\x04 7 \x04\x03\x02;\
@@ -163,7 +94,6 @@ fn mixed_sessions(rt: &impl Print) -> io::Result<()> {
 fn whole_bursts(rt: &impl Print) -> io::Result<()> {
     tables::each(
         rt,
-        Kind::Burst(Call::Receive),
         b"P receives the burst 3, 3, 3, 2 into 3 bytes|P\x03\x03\x03\x03\x02;\
           P receives the burst 2, 2, 0, 0 into 5 bytes|P\x05\x02\x02\x00\x00;\
           Q receives the burst 2, 2, 0, 0 into 1 byte|Q\x01\x02\x02\x00\x00;\
@@ -178,5 +108,6 @@ fn whole_bursts(rt: &impl Print) -> io::Result<()> {
           P receives the burst 3, 4, 3, 2 into 3 bytes|P\x03\x03\x04\x03\x02;\
           P receives the burst 3, 4, 3, 2 into 2 bytes|P\x02\x03\x04\x03\x02;\
           the first 19 bytes of P receive the burst 4, 4, 4 into 1 byte|p\x01\x04\x04\x04;",
+        |fed| bursts::row(rt, burst_receive, fed),
     )
 }

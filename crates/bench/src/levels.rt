@@ -1,21 +1,7 @@
 // The cases of readings: document 01, "Readings and bursts", and the refusal 12; document 02, R-6, erased digits, and R-7, the band around zero.
-use crate::tables::Kind;
-use crate::{decoding, lines, tables};
-use decoder::Session;
+use crate::{decoding, drafts, lines, tables};
 use receiving::Reading;
 use std::io;
-
-pub(crate) fn receive(
-    rt: &impl Print,
-    s: Session,
-    number: u8,
-    readings: [Reading; 8],
-) -> io::Result<Session> {
-    let received = decoder::receive_readings(s, number, readings);
-    let came = received.answer;
-    decoding::answer(rt, came)?;
-    Ok(received.session)
-}
 
 // The level that a small letter of a row, or a sign, stands for: one, half, a quarter, the next ones above and below a quarter, the largest
 // subnormal, the smallest above zero, zero, the largest, not a number, infinity. A dash, as any other byte, is minus one.
@@ -45,20 +31,15 @@ fn level(letter: u8) -> f32 {
 }
 
 fn reading(letter: u8) -> Reading {
-    if letter == b'e' {
-        Reading::Erased
-    } else {
-        Reading::Level(level(letter))
+    match letter {
+        b'e' => Reading::Erased,
+        _ => Reading::Level(level(letter)),
     }
 }
 
 // Eight readings by their letters; those after the third are alike.
 fn lettered(first: u8, second: u8, third: u8, other: u8) -> [Reading; 8] {
-    let one = reading(first);
-    let two = reading(second);
-    let three = reading(third);
-    let more = reading(other);
-    [one, two, three, more, more, more, more, more]
+    [first, second, third, other, other, other, other, other].map(reading)
 }
 
 // The frame that a letter of a session's row stands for. An `e` has its first digit erased and 1 as its second, a `p` has 1 as its first and
@@ -74,17 +55,15 @@ pub(crate) fn frame(letter: u8) -> [Reading; 8] {
 }
 
 // What a row feeds are the letters of the first reading, of the third and of those after it; the second is one. The card has no memory.
-pub(crate) fn row(rt: &impl Print, fed: &[u8]) -> io::Result<()> {
-    let s = decoding::opened(rt, b'M')?;
-    let card = s.card;
-    let levels = lettered(
-        tables::byte(fed, 0),
-        b'+',
-        tables::byte(fed, 1),
-        tables::byte(fed, 2),
-    );
-    receive(rt, s, card.number, levels)?;
-    lines::text(rt, b"\n")
+fn row(rt: &impl Print, fed: &[u8]) -> io::Result<()> {
+    let [first, third, other] = fed else {
+        return Ok(());
+    };
+    let mut session = lines::session(rt, decoder::open(drafts::named(b'M').front()))?;
+    let number = session.card.number;
+    let readings = lettered(*first, b'+', *third, *other);
+    lines::answer(rt, session.receive_readings(number, readings))?;
+    rt.write_all(b"\n")
 }
 
 // With the digits d, 1 and 0 one of the two checks is 1, so that d is handed out, and 0 if it is erased. The third reading is the last of three
@@ -92,7 +71,6 @@ pub(crate) fn row(rt: &impl Print, fed: &[u8]) -> io::Result<()> {
 pub(crate) fn digits(rt: &impl Print) -> io::Result<()> {
     tables::each(
         rt,
-        Kind::Levels,
         b"m 0 reads 0.5, 1, -1|h--;\
           m 0 reads -0.5, 1, -1|H--;\
           m 0 reads erased, 1, -1|e--;\
@@ -102,15 +80,15 @@ pub(crate) fn digits(rt: &impl Print) -> io::Result<()> {
           m 0 reads minus infinity, 1, -1|I--;\
           m 0 reads 0.5, 1, NaN|hn-;\
           m 0 reads 0.5, 1, -1, then NaN|h-n;",
+        |fed| row(rt, fed),
     )
 }
 
 // The second frame has the level as its information digit, and 1 after it. The first three rows tell apart what it may be: erased, 1 and 0. Of the
 // others 0.24999999 and 0.25000003 are the neighbours of 0.25, and the last four the least and the largest subnormal.
 pub(crate) fn band(rt: &impl Print) -> io::Result<()> {
-    tables::each(
+    decoding::rows(
         rt,
-        Kind::Receiving,
         b"P receives 1, erased and 1, 0|P\x01e\x00;\
           P receives 1, 3, 0|P\x01\x03\x00;\
           P receives 1, 2, 0|P\x01\x02\x00;\
@@ -133,9 +111,8 @@ pub(crate) fn band(rt: &impl Print) -> io::Result<()> {
 // with nothing erased has the frames of the one before it as bytes, 0 for a lost one. T's s0 votes on stream 2, whose own digit is erased, and not
 // on stream 1: with votes on both, its second row would give 0, and with none 3.
 pub(crate) fn erasures(rt: &impl Print) -> io::Result<()> {
-    tables::each(
+    decoding::rows(
         rt,
-        Kind::Receiving,
         b"Q receives 1, a lost frame, 0, 2|Q\x01x\x00\x02;\
           Q receives 1, 0, 0, 2|Q\x01\x00\x00\x02;\
           Q receives 2, 2, 0, 0, the first information digit erased|Qe\x02\x00\x00;\

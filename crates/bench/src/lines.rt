@@ -1,52 +1,56 @@
 // The lines that the bench writes: what a case is, a colon, and what it came to.
-use crate::drafts::Draft;
-use card::CardRule;
+use crate::drafts::Card;
+use card::{CardRule, Fault, Opened, Refusal};
 use std::io;
 
-pub(crate) fn text(rt: &impl Print, words: &[u8]) -> io::Result<()> {
-    rt.write_all(words)
-}
-
-pub(crate) fn number(rt: &impl Print, n: u64) -> io::Result<()> {
-    rt.print(n)
-}
-
-pub(crate) fn counted(rt: &impl Print, words: &[u8], n: u64) -> io::Result<()> {
-    text(rt, words)?;
-    number(rt, n)
-}
-
-pub(crate) fn refused(rt: &impl Print, words: &[u8], refusal: card::Refusal) -> io::Result<()> {
-    counted(rt, words, card::refusal_number(refusal) as u64)
-}
-
-pub(crate) fn verdict(rt: &impl Print, v: card::Verdict) -> io::Result<()> {
-    match v {
-        card::Verdict::Accepted => text(rt, b": accepted"),
-        card::Verdict::Refused { refusal, offset } => {
-            refused(rt, b": refused ", refusal)?;
-            counted(rt, b" at ", offset as u64)
-        }
+fn verdict(rt: &impl Print, came: Result<(), Fault>) -> io::Result<()> {
+    match came {
+        Ok(()) => rt.write_all(b": accepted"),
+        Err(Fault { refusal, offset }) => print!(rt; ": refused {} at {offset}", u8::from(refusal)),
     }
 }
 
-// The bytes from a start to an end, as far as there are any.
-pub(crate) fn part(bytes: &[u8], start: usize, end: usize) -> &[u8] {
-    let last = bits::at_most(end, bytes.len());
-    let first = bits::at_most(start, last);
-    &bytes[first..last]
+// A whole line: what reading the card comes to under a rule.
+pub(crate) fn outcome(rt: &impl Print, rule: CardRule, card: &Card) -> io::Result<()> {
+    verdict(rt, card::read_card(rule, card.front()).map(|_| ()))?;
+    rt.write_all(b"\n")
 }
 
-// The first bytes, or all where there are fewer.
-pub(crate) fn front(bytes: &[u8], len: usize) -> &[u8] {
-    part(bytes, 0, len)
+// The session that opening came to. What each call answers comes after the verdict.
+pub(crate) fn session<S: Drop>(rt: &impl Print, opened: Opened<S>) -> io::Result<S> {
+    verdict(rt, opened.verdict)?;
+    Ok(opened.session)
 }
 
-// The end of a line: what reading the card comes to under a rule.
-pub(crate) fn outcome(rt: &impl Print, rule: CardRule, draft: Draft) -> io::Result<()> {
-    let bytes = draft.bytes;
-    let read = card::read_card(rule, front(&bytes, draft.len));
-    let v = read.verdict;
-    verdict(rt, v)?;
-    text(rt, b"\n")
+// What a call of a session answers: 'waiting' is no frame.
+pub(crate) fn answer(rt: &impl Print, came: Result<Option<u8>, Refusal>) -> io::Result<()> {
+    match came {
+        Ok(None) => rt.write_all(b", waiting"),
+        Ok(Some(frame)) => print!(rt; ", frame {frame}"),
+        Err(refusal) => print!(rt; ", refused {}", u8::from(refusal)),
+    }
+}
+
+// What a run of calls comes to: how often 'waiting' came, and how many frames.
+#[derive(Clone, Copy, Default)]
+pub(crate) struct Tally {
+    pub waiting: usize,
+    pub frames: usize,
+}
+
+impl Tally {
+    // The same call so many times.
+    pub(crate) fn of<F: FnMut() -> Result<Option<u8>, Refusal>>(times: usize, mut call: F) -> Self
+        requires { F.IsAlwaysCallable call }
+    {
+        let mut tally = Tally::default();
+        for _ in 0..times {
+            match call() {
+                Ok(None) => tally.waiting += 1,
+                Ok(Some(_)) => tally.frames += 1,
+                Err(_) => {}
+            }
+        }
+        tally
+    }
 }

@@ -1,6 +1,5 @@
 // The cases of card reading: document 01, "Cards on the bench" and "Refused because of the input", 1 to 10; document 02, R-4, 18, and R-13.
-use crate::drafts::Draft;
-use crate::tables::Kind;
+use crate::drafts::{Card, Draft};
 use crate::{drafts, lines, tables};
 use card::CardRule;
 use std::io;
@@ -8,47 +7,49 @@ use std::io;
 pub(crate) fn cases(rt: &impl Print) -> io::Result<()> {
     starred(rt)?;
     memory_and_streams(rt)?;
-    stated_defaults(rt, Kind::Card)?;
-    stated_defaults(rt, Kind::StoredCard)?;
+    stated_defaults(rt)?;
     maps_and_masks(rt)?;
-    counts(rt, Kind::Card)?;
-    counts(rt, Kind::StoredCard)?;
+    counts(rt)?;
     cuts(rt)?;
     lengths(rt)
 }
 
 // What a row feeds is the letter of a card, and after it nothing, a byte to add, or the offset and the value of a byte to change; or, of a
-// plain card, the letter that says what stands, k, n, and the two bytes of the generator map.
-pub(crate) fn drafted(fed: &[u8]) -> Draft {
-    let card = drafts::named(tables::byte(fed, 0));
-    let one = tables::byte(fed, 1);
-    let two = tables::byte(fed, 2);
-    match fed.len() {
-        2 => drafts::byte(card, one),
-        3 => drafts::changed(card, bits::size(one), two),
-        5 => drafts::plain(
-            tables::byte(fed, 0),
-            one,
-            two,
-            tables::byte(fed, 3),
-            tables::byte(fed, 4),
-        ),
-        _ => card,
+// plain card, a B if k and n both stand or another letter if a default doesn't, k, n, and the two bytes of the generator map.
+fn drafted(fed: &[u8]) -> Card {
+    match fed {
+        [letter, byte] => drafts::named(*letter).byte(*byte),
+        [letter, offset, value] => drafts::named(*letter).changed(usize::from(*offset), *value),
+        [b'B', k, n, low, high] => drafts::plain(drafts::stated_head(*k, *n), *k, [*low, *high]),
+        [_, k, n, low, high] => drafts::plain(drafts::head(*k, *n), *k, [*low, *high]),
+        [letter, ..] => drafts::named(*letter),
+        [] => Draft::of(b""),
     }
 }
 
-// What the card came to before R-4.
-pub(crate) fn formerly(rt: &impl Print, card: Draft) -> io::Result<()> {
-    lines::text(rt, b", under the former rule")?;
-    lines::outcome(rt, CardRule::Former, card)
+// A row for each card, under the present rule.
+fn cards(rt: &impl Print, table: &[u8]) -> io::Result<()> {
+    tables::each(
+        rt,
+        table,
+        |fed| lines::outcome(rt, CardRule::Present, &drafted(fed)),
+    )
+}
+
+// The same under both rules: what the cards come to, and what they came to before R-4.
+fn stored_cards(rt: &impl Print, table: &[u8]) -> io::Result<()> {
+    cards(rt, table)?;
+    tables::each(rt, table, |fed| {
+        rt.write_all(b", under the former rule")?;
+        lines::outcome(rt, CardRule::Former, &drafted(fed))
+    })
 }
 
 // The starred cases, the rows of `specs/Rows.antt`. The mask of Q's third check begins at byte 21, that of R's fourth at 26, and that of the
 // second of T's stream 1 at 22.
 fn starred(rt: &impl Print) -> io::Result<()> {
-    tables::each(
+    cards(
         rt,
-        Kind::Card,
         b"P|P;\
           Q|Q;\
           R|R;\
@@ -64,9 +65,8 @@ fn starred(rt: &impl Print) -> io::Result<()> {
 
 // m is byte 2 of P. Then k at both ends, and n at both ends for each k; a default doesn't stand.
 fn memory_and_streams(rt: &impl Print) -> io::Result<()> {
-    tables::each(
+    cards(
         rt,
-        Kind::Card,
         b"P with m 31|P\x02\x1f;\
           P with m 31 and terms 0 and 31|F;\
           P with m 32|P\x02\x20;\
@@ -93,10 +93,9 @@ fn memory_and_streams(rt: &impl Print) -> io::Result<()> {
 }
 
 // Fields that stand with their defaults, and what is tested before that: a field's end and its range.
-fn stated_defaults(rt: &impl Print, kind: Kind) -> io::Result<()> {
-    tables::each(
+fn stated_defaults(rt: &impl Print) -> io::Result<()> {
+    stored_cards(
         rt,
-        kind,
         b"P, k stated as 1 and n as 2|d;\
           k 1, n 2, both stated|B\x01\x02\x01\x00;\
           k 1, n 3, both stated|B\x01\x03\x01\x00;\
@@ -112,9 +111,8 @@ fn stated_defaults(rt: &impl Print, kind: Kind) -> io::Result<()> {
 // P's maps are byte 0, bytes 3 and 4 for its one generator, and byte 10 for the one parity stream of its first check. Its generator begins
 // at byte 5, the mask of its first check at byte 11; m is 1.
 fn maps_and_masks(rt: &impl Print) -> io::Result<()> {
-    tables::each(
+    cards(
         rt,
-        Kind::Card,
         b"P with bit 2 of byte 0|P\x00\x04;\
           P with bit 7 of byte 0|P\x00\x80;\
           P with bit 1 of its generator map|P\x03\x03;\
@@ -130,10 +128,9 @@ fn maps_and_masks(rt: &impl Print) -> io::Result<()> {
 }
 
 // J is byte 34 of the card with ten checks, and of that with eleven: document 02, R-13, "7 is now met from J = 11", "in R-4's program too".
-fn counts(rt: &impl Print, kind: Kind) -> io::Result<()> {
-    tables::each(
+fn counts(rt: &impl Print) -> io::Result<()> {
+    stored_cards(
         rt,
-        kind,
         b"J 0|S\x22\x00;\
           J 10|S;\
           J 11|s;\
@@ -144,22 +141,17 @@ fn counts(rt: &impl Print, kind: Kind) -> io::Result<()> {
 
 // P ends at byte 20.
 fn cuts(rt: &impl Print) -> io::Result<()> {
-    for len in 0..20 {
-        cut(rt, len)?;
+    for len in 0..20usize {
+        print!(rt; "P cut at byte {len}")?;
+        lines::outcome(rt, CardRule::Present, &drafts::named(b'P').cut(len))?;
     }
     Ok(())
 }
 
-fn cut(rt: &impl Print, len: usize) -> io::Result<()> {
-    lines::counted(rt, b"P cut at byte ", len as u64)?;
-    lines::outcome(rt, CardRule::Present, drafts::cut(drafts::named(b'P'), len))
-}
-
 // "No accepted card is then longer than 755 bytes" (R-13), and one has as many.
 fn lengths(rt: &impl Print) -> io::Result<()> {
-    tables::each(
+    cards(
         rt,
-        Kind::Card,
         b"no bytes|;\
           755 bytes|L;\
           its first 754 bytes|l;\

@@ -1,9 +1,9 @@
 // The cases of sending: document 01, "The code" and "Readings and bursts", and the refusals 11, 13, 16 and 17 in their orders. Those of 15 are
 // in `limits`.
-use crate::bursts::Call;
-use crate::tables::Kind;
-use crate::{drafts, limits, lines, tables};
-use encoder::{Answer, Session};
+use crate::lines::Tally;
+use crate::{bursts, drafts, limits, lines, tables};
+use burst::send::burst_send;
+use encoder::Session;
 use std::io;
 
 pub(crate) fn cases(rt: &impl Print) -> io::Result<()> {
@@ -11,65 +11,39 @@ pub(crate) fn cases(rt: &impl Print) -> io::Result<()> {
     whole_bursts(rt)
 }
 
-// The verdict on the card of that letter. What each call answers comes after it.
-fn opened(rt: &impl Print, letter: u8) -> io::Result<Session> {
-    let draft = drafts::named(letter);
-    let bytes = draft.bytes;
-    let opened = encoder::open(lines::front(&bytes, draft.len));
-    let verdict = opened.verdict;
-    lines::verdict(rt, verdict)?;
-    Ok(opened.session)
-}
-
-fn answer(rt: &impl Print, came: Answer) -> io::Result<()> {
-    match came {
-        Answer::Frame(frame) => lines::counted(rt, b", frame ", frame as u64),
-        Answer::Refused(refusal) => lines::refused(rt, b", refused ", refusal),
-    }
-}
-
-fn send(rt: &impl Print, s: Session, info: u8) -> io::Result<Session> {
-    let sent = encoder::send(s, info);
-    let came = sent.answer;
-    answer(rt, came)?;
-    Ok(sent.session)
-}
-
-fn tail(rt: &impl Print, s: Session) -> io::Result<Session> {
-    let sent = encoder::send_tail(s);
-    let came = sent.answer;
-    answer(rt, came)?;
-    Ok(sent.session)
-}
-
 // A `t` asks for a tail frame, a `-` or `=` for the information 1 as many times as it stands for; any other byte is the information.
-fn step(rt: &impl Print, s: Session, fed: u8) -> io::Result<Session> {
+fn step(rt: &impl Print, session: &mut Session, fed: u8) -> io::Result<()> {
     match fed {
-        b't' => tail(rt, s),
-        b'-' | b'=' => limits::send_ones(rt, s, limits::count(fed)),
-        _ => send(rt, s, fed),
+        b't' => lines::answer(rt, session.send_tail().map(Some)),
+        b'-' | b'=' => {
+            let tally = Tally::of(limits::count(fed), || session.send(1).map(Some));
+            print!(rt; ", {} frames", tally.frames)
+        }
+        info => lines::answer(rt, session.send(info).map(Some)),
     }
-}
-
-fn steps(rt: &impl Print, s: Session, fed: &[u8]) -> io::Result<Session> {
-    let mut session = s;
-    for i in 0..fed.len() {
-        session = step(rt, session, fed[i])?;
-    }
-    Ok(session)
 }
 
 // What a row feeds is the letter of a card, and the steps of the session.
-pub(crate) fn row(rt: &impl Print, fed: &[u8]) -> io::Result<()> {
-    steps(rt, opened(rt, tables::byte(fed, 0))?, tables::from(fed, 1))?;
-    lines::text(rt, b"\n")
+fn row(rt: &impl Print, fed: &[u8]) -> io::Result<()> {
+    let [letter, steps @ ..] = fed else {
+        return Ok(());
+    };
+    let mut session = lines::session(rt, encoder::open(drafts::named(*letter).front()))?;
+    for &fed in steps {
+        step(rt, &mut session, fed)?;
+    }
+    rt.write_all(b"\n")
+}
+
+// A table of sessions, here and in `limits`.
+pub(crate) fn rows(rt: &impl Print, table: &[u8]) -> io::Result<()> {
+    tables::each(rt, table, |fed| row(rt, fed))
 }
 
 // A refused call leaves the session as it was; 16 comes before 11.
 fn sessions(rt: &impl Print) -> io::Result<()> {
-    tables::each(
+    rows(
         rt,
-        Kind::Sending,
         b"P sends 1, 0, 1 and tail|P\x01\x00\x01t;\
           k 4, n 8 sends 1, 2, 15 and tail|E\x01\x02\x0ft;\
           m 0 sends a tail frame, then 1, 0|Mt\x01\x00;\
@@ -84,7 +58,6 @@ fn sessions(rt: &impl Print) -> io::Result<()> {
 fn whole_bursts(rt: &impl Print) -> io::Result<()> {
     tables::each(
         rt,
-        Kind::Burst(Call::Send),
         b"P sends the burst 1, 0, 1 into 4 bytes|P\x04\x01\x00\x01;\
           P sends the burst 1, 0, 1 into 6 bytes|P\x06\x01\x00\x01;\
           P sends an empty burst into 1 byte|P\x01;\
@@ -94,5 +67,6 @@ fn whole_bursts(rt: &impl Print) -> io::Result<()> {
           P sends the burst 1, 2, 1 into 4 bytes|P\x04\x01\x02\x01;\
           P sends the burst 1, 2, 1 into 3 bytes|P\x03\x01\x02\x01;\
           the first 19 bytes of P send the burst 1 into 1 byte|p\x01\x01;",
+        |fed| bursts::row(rt, burst_send, fed),
     )
 }

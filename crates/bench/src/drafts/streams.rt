@@ -1,12 +1,11 @@
 // Five cards more: one with no memory, one with all eight streams, one with unequal numbers of checks and a number above 15, one with ten checks for its
 // stream, the most that may be stated, and one with eleven, which has no other fault.
 // The lines are as in `document`.
-use crate::drafts;
-use crate::drafts::Draft;
+use crate::drafts::{Card, Draft};
 
 // k 1, n 3, m 0: a digit is sent three times, and its checks are the two syndromes.
-pub(crate) fn repetition() -> Draft {
-    drafts::of(
+pub(crate) fn repetition() -> Card {
+    Draft::of(
         b"\x02\x09\x03\x00\x03\x00\
           \x01\x00\x00\x00\x01\x00\x00\x00\x02\
           \x01\x01\x00\x00\x00\x02\x01\x00\x00\x00",
@@ -15,8 +14,8 @@ pub(crate) fn repetition() -> Draft {
 
 // k 4, n 8, m 1: an information stream goes into the parity stream of its own number, and a frame later into the next one, the first after
 // the fourth. Its two checks are s0 on the one and s1 on the other.
-pub(crate) fn all_eight() -> Draft {
-    drafts::of(
+pub(crate) fn all_eight() -> Card {
+    Draft::of(
         b"\x03\x48\x04\x08\x01\x63\x9c\
           \x01\x00\x00\x00\x02\x00\x00\x00\x01\x00\x00\x00\x02\x00\x00\x00\
           \x01\x00\x00\x00\x02\x00\x00\x00\x02\x00\x00\x00\x01\x00\x00\x00\
@@ -28,8 +27,8 @@ pub(crate) fn all_eight() -> Draft {
 }
 
 // k 3, n 6, m 2, number 200, J 4, 2 and 3: Wide of `code`, `specs/Bench.antt`.
-pub(crate) fn wide() -> Draft {
-    drafts::of(
+pub(crate) fn wide() -> Card {
+    Draft::of(
         b"\x03\xc8\x03\x06\x02\xaf\x01\
           \x03\x00\x00\x00\x02\x00\x00\x00\x06\x00\x00\x00\x04\x00\x00\x00\
           \x07\x00\x00\x00\x07\x00\x00\x00\x04\x00\x00\x00\
@@ -41,8 +40,8 @@ pub(crate) fn wide() -> Draft {
 
 // k by default, n 8, m 4, with the first ten checks of Many (`card`, `specs/Bench.antt`): the terms of the seven generators are 0, 1; 0, 2; 0, 3; 0, 4; 0; 0; 0,
 // and each term by itself is a check. J is byte 34.
-pub(crate) fn ten_checks() -> Draft {
-    drafts::of(
+pub(crate) fn ten_checks() -> Card {
+    Draft::of(
         b"\x02\x0d\x08\x04\x7f\x00\
           \x03\x00\x00\x00\x05\x00\x00\x00\x09\x00\x00\x00\x11\x00\x00\x00\
           \x01\x00\x00\x00\x01\x00\x00\x00\x01\x00\x00\x00\x0a\
@@ -53,9 +52,6 @@ pub(crate) fn ten_checks() -> Draft {
 }
 
 // All eleven.
-pub(crate) fn eleven_checks() -> Draft {
-    drafts::bytes(
-        drafts::changed(ten_checks(), 34, 11),
-        b"\x40\x01\x00\x00\x00",
-    )
+pub(crate) fn eleven_checks() -> Card {
+    ten_checks().changed(34, 11).bytes(b"\x40\x01\x00\x00\x00")
 }
