@@ -5,12 +5,12 @@ ghost use Rattle.code.specs.ErasedDigits.{any_with, erased_with, erased_moved};
 // The digit of stream s, a frames after the one that is decided next, is erased if digit a of register s is 1, and digit a of `any` is 1 if a digit of
 // that frame is. While `any` is 0 the registers are not looked at.
 #[derive(Clone, Copy)]
-pub struct Erased {
-    pub registers: [u32; 8],
+pub struct Erased<const N: usize> {
+    pub registers: [u32; N],
     pub any: u32,
 }
 
-impl Erased {
+impl<const N: usize> Erased<N> {
     // The marks of a frame, put in at a place.
     pub fn put(&mut self, marks: u32, place: usize)
         ensures any { self.new.any ≡ any_with self.old.any marks place }

@@ -20,7 +20,7 @@ use receiving::{Frame, Receives};
 pub struct Held {
     pub history: [u32; 4], // bit a of register i: information digit i of the frame a before the last one received
     pub syndromes: [u32; 8], // bit a of register j: the syndrome of parity stream j, a after the frame that is decided next
-    pub erased: Erased,
+    pub erased: Erased<8>,
 }
 
 pub type Session = receiving::Session<Held>;
@@ -80,7 +80,7 @@ fn errors<'a>(
     counts: &'a [u32],
     checks: &'a [u32],
     syndromes: &[u32; 8],
-    erased: &Erased,
+    erased: &Erased<8>,
     sizes: Sizes,
 ) -> u32
     requires { sizes.p ≤ 8 }

@@ -18,7 +18,7 @@ use receiving::{Frame, Receives};
 pub struct Held {
     pub digits: [u32; 8], // bit a of register s: the digit of stream s received a after the frame that is decided next
     pub decided: [u32; 4], // bit 32 - b of register i: information digit i as decided, b before the frame that is decided next
-    pub erased: Erased,
+    pub erased: Erased<8>,
 }
 
 pub type Session = receiving::Session<Held>;

@@ -127,12 +127,12 @@ pub fn decide(voters: &Voters, checks: &[u32], syndromes: &[u32], k: usize, p: u
 }
 
 // The decided errors of a frame where digits may be erased. While none is, all checks vote.
-pub fn decide_marked<'a>(
+pub fn decide_marked<'a, const N: usize>(
     generators: &'a [u32],
     counts: &'a [u32],
     checks: &'a [u32],
     syndromes: &[u32],
-    erased: &Erased,
+    erased: &Erased<N>,
     sizes: Sizes,
 ) -> u32
     ensures { result ≡ decide_marked generators.now counts.now checks.now syndromes.now erased.now.registers erased.now.any sizes }

@@ -58,7 +58,7 @@ fn masks_from(checks: &[u32], at: usize) -> &[u32]
 fn check_votes<'a>(
     generators: &'a [u32],
     checks: &'a [u32],
-    erased: &[u32; 8],
+    erased: &[u32],
     sizes: Sizes,
     i: usize,
     q: usize,
@@ -68,9 +68,9 @@ fn check_votes<'a>(
 {
     let masks = masks_from(checks, i * CHECK_STRIDE + q * 8);
     let mut met = 0;
-    for (s, marks) in erased.iter().enumerate() {
+    for s in 0..8 {
         let touches = orthogonal::touched(generators, masks, sizes.k, sizes.p, s);
-        met |= orthogonal::clash(touches, *marks, i, s);
+        met |= orthogonal::clash(touches, bits::word(erased, s), i, s);
     }
     met == 0
 }
@@ -79,7 +79,7 @@ fn check_votes<'a>(
 fn stream_voters<'a>(
     generators: &'a [u32],
     checks: &'a [u32],
-    erased: &[u32; 8],
+    erased: &[u32],
     sizes: Sizes,
     i: usize,
     all: u32,
@@ -97,11 +97,11 @@ fn stream_voters<'a>(
 }
 
 // The checks that vote. While nothing is erased the registers of erased digits are not looked at.
-pub fn voting<'a>(
+pub fn voting<'a, const N: usize>(
     generators: &'a [u32],
     counts: &'a [u32],
     checks: &'a [u32],
-    erased: &Erased,
+    erased: &Erased<N>,
     sizes: Sizes,
 ) -> Voters
     ensures { result ≡ voters_of (voters_by generators.now counts.now checks.now erased.now.registers erased.now.any sizes.k sizes.p) }

@@ -21,10 +21,10 @@ loop-s-preserved c =
     let left = and_le_l l.met both in
     let right = and_le_r l.met both in (
       λ z r h.
-          ⊎_elim (λ (e : r ≡ l.s). rw e (none-clear _ _ _ _ _ _ c.touched-touches.ensures refl c.clash-met.ensures (omega arith)))
+          ⊎_elim (λ (e : r ≡ l.s). rw e (none-clear _ _ _ _ _ _ c.touched-touches.ensures c.word.ensures c.clash-met.ensures (omega arith)))
           (λ other. l.invariant.0 (omega arith) r (omega arith)) (same_or_not r l.s),
       λ all.
-          let here = clear_none _ _ _ _ _ _ c.touched-touches.ensures refl c.clash-met.ensures (omega arith) (all l.s (omega arith)) in
+          let here = clear_none _ _ _ _ _ _ c.touched-touches.ensures c.word.ensures c.clash-met.ensures (omega arith) (all l.s (omega arith)) in
           let before = l.invariant.1 (λ r h. all r (omega arith)) in
           omega arith,
     )

@@ -13,10 +13,10 @@ use Rattle.vote.proofs.voters.voting.Goals.{then-erased-ne0+else-loop-i-test, el
 
 pub loop-i-init : goal.loop-i-init
 unfolding up_to
-loop-i-init c = refl
+loop-i-init g c = refl
 
 pub loop-i-preserved : goal.loop-i-preserved
-loop-i-preserved c =
+loop-i-preserved g c =
     let l = c.loop-i in
     let a = c.args in
     part_step _ _ _ _ _ (omega arith) l.invariant
@@ -25,7 +25,7 @@ loop-i-preserved c =
 
 pub returns : goal.returns
 unfolding voters_by
-returns c =
+returns g c =
     let a = c.args in
     let some : List ℕ → ℕ → ℕ = λ all i. stream_voters_by a.generators.now a.checks.now a.erased.now.registers a.sizes.k a.sizes.p i (get_or all i 0) in
     let four : length c.all_checks-words.result ≡ 4 = omega arith in
