@@ -10,7 +10,7 @@ use lib.Bits.{bit_and, bit_or, bit_xor, and_shr, and_step, or_shr, or_step, xor_
 use lib.Count.{ones, ones_step}
 use Rattle.bits.specs.Sums.{sum_below, xor_below}
 use Rattle.bits.specs.Digits.{bit, from_digits}
-use Rattle.bits.proofs.Cases.{le-or-lt, last-or-below}
+use Rattle.bits.proofs.Cases.{last-or-below}
 use Rattle.bits.proofs.Sums.{sum_same, sum-cong, sum_first, sum-cut, sum-scale}
 
 pub bit_le : (x a : ℕ) → bit x a ≤ 1
@@ -69,14 +69,6 @@ place_other d (suc p) (suc a) h n =
     bit-suc (d * 2 ^ suc p) a ∙ ap (λ (x : ℕ). bit x a) (shifted_half d p) ∙ place_other d p a h (λ e. n (ap suc e))
 
 -- ---- a number that a loop halves until nothing is left of it
-
-pub halved-more : (x l : ℕ) {rest : ℕ} → rest ≡ x / 2 ^ l → rest / 2 ≡ x / 2 ^ (l + 1)
-halved-more x l e = ap (λ n. n / 2) e ∙ shr-shr x l 1
-
--- something left, at most w turns
-pub halved-within : (x w l : ℕ) → x < 2 ^ w → 0 < x / 2 ^ l → l < w
-halved-within x w l h p =
-    ⊎_elim (λ k. absurd (omega (arith, div-eq_of_lt (lt_of_lt_of_le h (pow_mono k))))) (λ k. k) (le-or-lt w l)
 
 -- nothing left, no digit more
 pub halved-whole : (x l : ℕ) → x / 2 ^ l ≤ 0 → x < 2 ^ l

@@ -2,7 +2,7 @@
 use Prim.Native.Nat.{ℕ, zero, suc, ◌+◌, ◌-◌, ◌*◌, ◌%◌, ◌≤◌, ◌<◌, zero-le}
 use mathlib.Core.Path.{◌≡◌, refl, sym, ap, ap₂, ◌∙◌, fun_ext}
 use mathlib.Core.Logic.{◌≢◌, ⊎_elim}
-use native.Mathlib.Nat.{le_refl, zero-mul, suc-mul, mul-zero, add-zero, add-suc, add-le-add, mul_comm, suc-sub-suc, sub-zero, le_antisymm}
+use native.Mathlib.Nat.{le_refl, zero-mul, suc-mul, mul-zero, add-zero, add-suc, add-le-add, mul_comm, suc-sub-suc, sub-zero}
 use native.Mathlib.Numerals.{add-one}
 use native.Mathlib.Decide.{dec_lt}
 use native.Mathlib.Omega.{arith}
@@ -39,9 +39,6 @@ sum_more n f = rw add-one
 -- one turn of a loop that sums, and its end
 pub sum_step : (n : ℕ) (f : ℕ → ℕ) {s r : ℕ} → s ≡ sum_below n f → r ≡ f n → s + r ≡ sum_below (n + 1) f
 sum_step n f e q = rw (sum_more n f, e, q)
-
-pub sum-end : (n m : ℕ) (f : ℕ → ℕ) {s : ℕ} → n ≤ m → m ≤ n → s ≡ sum_below n f → s ≡ sum_below m f
-sum-end n m f h k e = e ∙ ap (λ i. sum_below i f) (le_antisymm h k)
 
 -- the first term apart
 pub sum_first : (n : ℕ) (f : ℕ → ℕ) → sum_below (suc n) f ≡ f 0 + sum_below n (λ q. f (suc q))

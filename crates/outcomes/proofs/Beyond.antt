@@ -1,35 +1,16 @@
 -- The first frame that has a digit beyond its streams.
 use Prim.Native.Nat.{ℕ, suc, ◌+◌, ◌^◌, ◌≤◌, ◌<◌}
-use mathlib.Core.Path.{◌≡◌, refl, ap, ◌∙◌}
+use mathlib.Core.Path.{◌≡◌, refl, ap}
 use mathlib.Core.Bool.{Bool, true, false, cond, ◌||◌}
 use mathlib.Core.List.{List, [], ◌∷◌}
-use native.Mathlib.Numerals.{add-one}
 use native.Mathlib.Omega.{arith}
-use lib.ListN.{length, get_or, drop, drop_of_length-le}
-use lib.Seq.{drop-cons}
+use lib.ListN.{length, drop, drop_of_length-le}
 use lib.Dec.{leb}
 use Rattle.bits.specs.Digits.{any_beyond}
 use Rattle.outcomes.specs.Listing.{first_beyond}
 
 -- ---- frames of which a loop has passed the first `time`
 module _ (n : ℕ) (frames : List ℕ) (time : ℕ) where
-  beyond-next : time < length frames
-      → first_beyond n (drop time frames) ≡ cond (leb (2 ^ n) (get_or frames time 0)) 0 (suc (first_beyond n (drop (time + 1) frames)))
-  unfolding first_beyond
-  beyond-next h = rw (add-one, drop-cons frames time 0)
-
-  pub beyond-here : time < length frames → leb (2 ^ n) (get_or frames time 0) ≡ true → first_beyond n frames ≡ time + first_beyond n (drop time frames)
-      → time ≡ first_beyond n frames
-  beyond-here h b e =
-      let z : first_beyond n (drop time frames) ≡ 0 = beyond-next h ∙ ap (λ t. cond t 0 (suc (first_beyond n (drop (time + 1) frames)))) b in
-      omega arith
-
-  pub beyond-later : time < length frames → leb (2 ^ n) (get_or frames time 0) ≡ false → first_beyond n frames ≡ time + first_beyond n (drop time frames)
-      → first_beyond n frames ≡ time + 1 + first_beyond n (drop (time + 1) frames)
-  beyond-later h b e =
-      let s : first_beyond n (drop time frames) ≡ suc (first_beyond n (drop (time + 1) frames)) = beyond-next h ∙ ap (λ t. cond t 0 (suc (first_beyond n (drop (time + 1) frames)))) b in
-      omega arith
-
   pub beyond-nowhere : length frames ≤ time → first_beyond n frames ≡ time + first_beyond n (drop time frames) → time ≡ first_beyond n frames
   unfolding first_beyond
   beyond-nowhere h e =

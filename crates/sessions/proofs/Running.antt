@@ -21,9 +21,6 @@ pub record Partly (frames rest : List ℕ) (before after : Cursor) : Type 0 wher
   pub frames_are : frames ≡ done ++ rest
   pub stored : Stored before after done
 
-pub partly-none : (frames : List ℕ) (c : Cursor) → length c.output.now < 2 ^ 63 → Partly frames frames c c
-partly-none frames c most = record { done = []; frames_are = refl; stored = stored-nothing c most }
-
 module _ {frames rest : List ℕ} {before between : Cursor} (P : Partly frames rest before between) where
   pub partly-more : (given later : List ℕ) {after : Cursor} → rest ≡ given ++ later → Stored between after given → Partly frames later before after
   partly-more given later e w =
