@@ -115,6 +115,7 @@ struct Reached {
 }
 
 // While no syndrome is 1 there is no vote: the frames are handed out as they came, up to the end of the input or to a frame that has to be voted on.
+// Its sizes are numbers: those of a card that is lent would be read anew in every turn, which costs a fifth.
 fn hand_through(
     puts: &[u64; 32],
     k: usize,

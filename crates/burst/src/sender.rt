@@ -15,7 +15,8 @@ pub(crate) trait Sender: Copy {
         ensures { SendsNext Ready self.old info result self.new };
 }
 
-// The information frames, into the front of the output: the sender after them.
+// The information frames, into the front of the output: the sender after them. By index, as every loop of this crate that writes the output: what
+// `iter_mut().zip(..)` wrote is not known in a proof.
 fn send_information<S: Sender>(first: S, input: &[u8], output: &mut [u8]) -> S
     requires { length input.now ≤ length output.old }
     ensures { (c : Card) → Guarantees c → S.Ready c input.now 0 first
