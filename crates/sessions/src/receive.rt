@@ -22,6 +22,7 @@ fn receive_frames(session: &mut Session, input: &[u8], frames: &mut Cursor<'_>)
     }
 }
 
+// The count of frames handed out, or why there was no call.
 fn run(card: &[u8], input: &[u8], output: &mut [u8]) -> Result<usize, Refusal>
     ensures few { IfOk result (λ count. count ≤ most_frames) }
     ensures told { outcome (answer_of result) output.new ≡ session_receive_of card.now input.now output.old }

@@ -23,7 +23,8 @@ fn call(session: &mut Session, input: &[u8], t: usize) -> Result<u8, Refusal>
     }
 }
 
-// All calls: the frames that they hand out, one behind the other.
+// All calls: the frames that they hand out, one behind the other. `receive_frames` is the same loop over other calls: a trait for both, with the
+// frames still to come as its law, would be longer than the two.
 fn send_frames(session: &mut Session, calls: usize, input: &[u8], frames: &mut Cursor<'_>)
     requires { calls ≡ length input.now + session.old.card.m }
     ensures { Stored frames.old frames.new (frames_of session.old input.now) }
@@ -35,6 +36,7 @@ fn send_frames(session: &mut Session, calls: usize, input: &[u8], frames: &mut C
     }
 }
 
+// The count of frames handed out, or why there was no call.
 fn run(card: &[u8], input: &[u8], output: &mut [u8]) -> Result<usize, Refusal>
     ensures few { IfOk result (λ count. count ≤ most_frames) }
     ensures told { outcome (answer_of result) output.new ≡ session_send_of card.now input.now output.old }

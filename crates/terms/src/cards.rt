@@ -46,7 +46,8 @@ pub fn rewrite(input: &[u8], output: &mut [u8; REWRITING_ROOM]) -> usize
     listing::rewriting::rewrite(input, output)
 }
 
-// No name is longer than 131,072 bytes (`listing/Auditing: most_name`).
+// A file that does not pass has a line of so many bytes; one that passes has none, and counts. No name is longer than 131,072 bytes
+// (`listing/Auditing: most_name`).
 pub fn audit(file: Option<&[u8]>, output: &mut [u8; AUDIT_ROOM], size: usize) -> Option<usize>
     ensures { term.Audited (bytes_of file.entry) (take (min size 131072) output.old) output.old (line_count result) (passed result) output.new }
 {
