@@ -48,6 +48,10 @@ module _ {S : Type 0} {x : Circuit S} {Claims : Card → S → Type 0} (carded :
       record { verdict = e; other_number = shut.other_refused _ (λ q. omega arith); no_room = shut.own_refused _ (sym number) }
 
 -- ---- a byte and then readings, each a call of its own
+frame-is : (r : Result (Option ℕ) Refusal) {f : ℕ} → answer_of r ≡ frame f → r ≡ Ok (Some f)
+frame-is (Ok (Some f)) e = cc
+frame-is (Ok None) e = cc
+frame-is (Err refusal) e = cc
 
 waiting-is : (r : Result (Option ℕ) Refusal) → answer_of r ≡ waiting → r ≡ Ok None
 waiting-is (Ok (Some f)) e = cc

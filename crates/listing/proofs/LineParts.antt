@@ -113,6 +113,15 @@ pub refused-parts : (number place : ℕ) → length (refused_line number place) 
 unfolding text spaced line refused_line
 refused-parts number place = simp length-append (omega arith)
 
+pub card-parts : (number k n m : ℕ)
+    → length (card_line number k n m) ≡ 15 + (length (decimal number) + (length (decimal k) + length (decimal n) + length (decimal m)))
+unfolding text spaced line card_line
+card-parts number k n m = simp length-append (omega arith)
+
+pub frame-parts : (k time frame : ℕ) → length (frame_line k time frame) ≡ length (decimal time) + 2 * k + 1
+unfolding text line frame_line
+frame-parts k time frame = simp length-append (omega (arith, digits-length k frame))
+
 pub end-parts : (count : ℕ) → length (line_of_end count) ≡ 5 + length (decimal count)
 unfolding text spaced line line_of_end
 end-parts count = simp length-append (omega arith)
@@ -131,6 +140,9 @@ card-length number k n m hnumber hk hn hm =
       decimal-length 0 n hn,
       decimal-length 1 m hm,
     )
+
+pub frame-length : (k time frame : ℕ) → k ≤ 4 → time < 100000 → length (frame_line k time frame) ≤ 14
+frame-length k time frame h l = omega (arith, frame-parts k time frame, decimal-length 4 time l)
 
 pub lines-length : (k time : ℕ) (frames : List ℕ) → k ≤ 4 → time + length frames ≤ 100000 → length (frame_lines k time frames) ≤ 14 * length frames
 unfolding frame_lines

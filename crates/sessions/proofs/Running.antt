@@ -1,5 +1,5 @@
 -- A run under way: what it has handed out so far is stored, and the rest is still to come. And what a run comes to under each condition.
-use Prim.Native.Nat.{ℕ, ◌^◌, ◌≤◌, ◌<◌}
+use Prim.Native.Nat.{ℕ, ◌≤◌, ◌<◌}
 use mathlib.Core.Path.{◌≡◌, refl, sym, ap, ◌∙◌}
 use mathlib.Core.List.{List, [], ◌++◌, append_assoc, append-nil}
 use native.Mathlib.Omega.{arith}
@@ -12,7 +12,7 @@ use Rattle.outcomes.specs.Outcome.{BurstOutcome, outcome, refused_of, under_card
 use Rattle.outcomes.specs.Wrote.{Stored}
 use Rattle.outcomes.specs.declared.cursor.Cursor.{Cursor}
 use Rattle.outcomes.proofs.Outcomes.{given_is}
-use Rattle.outcomes.proofs.Writing.{stored-nothing, stored-both, stored-as, stored-front}
+use Rattle.outcomes.proofs.Writing.{stored-both, stored-as, stored-front}
 use Rattle.sessions.specs.Run.{run_of}
 
 -- ---- a run that has handed out some of all its frames
