@@ -112,7 +112,7 @@ pub fn quarters_are_read() -> Result<Frame, Refusal>
             Reading::Level(-0.25),
             Reading::Level(-0.24999999),
             Reading::Level(-0.25000003),
-            Reading::Level(f32::NAN),
+            Reading::Level(0.0f32 / 0.0f32),
             Reading::Erased,
         ],
         6,

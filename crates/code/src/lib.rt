@@ -40,19 +40,20 @@ pub struct Sizes {
     pub m: usize,
 }
 
+// The sizes of a card, its streams held to what the tables have. Those of an accepted card are its own.
+pub fn sizes_of(k: usize, p: usize, m: usize) -> Sizes
+    ensures { result ≡ sizes_of k p m }
+{
+    let k = k.min(4);
+    let p = p.min(8 - k);
+    Sizes { k, p, n: k + p, m }
+}
+
 impl Card {
-    // The sizes of the card, its streams held to what the tables have. Those of an accepted card are its own.
     pub fn sizes(&self) -> Sizes
         ensures { result ≡ sizes_of self.now.k self.now.p self.now.m }
     {
-        let k = self.k.min(4);
-        let p = self.p.min(8 - k);
-        Sizes {
-            k,
-            p,
-            n: k + p,
-            m: self.m,
-        }
+        sizes_of(self.k, self.p, self.m)
     }
 }
 

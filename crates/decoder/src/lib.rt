@@ -20,7 +20,7 @@ use receiving::{Frame, Receives};
 pub struct Held {
     pub history: [u32; 4], // bit a of register i: information digit i of the frame a before the last one received
     pub syndromes: [u32; 8], // bit a of register j: the syndrome of parity stream j, a after the frame that is decided next
-    pub erased: Erased<8>,
+    pub erased: Erased,
 }
 
 pub type Session = receiving::Session<Held>;
@@ -80,7 +80,7 @@ fn errors<'a>(
     counts: &'a [u32],
     checks: &'a [u32],
     syndromes: &[u32; 8],
-    erased: &Erased<8>,
+    erased: &Erased,
     sizes: Sizes,
 ) -> u32
     requires { sizes.p ≤ 8 }
@@ -89,7 +89,15 @@ fn errors<'a>(
     if syndromes[..sizes.p].iter().all(|word| *word == 0) {
         return 0;
     }
-    vote::decide_marked(generators, counts, checks, syndromes, erased, sizes)
+    vote::decide_marked(
+        generators,
+        counts,
+        checks,
+        syndromes,
+        &erased.registers,
+        erased.any,
+        sizes,
+    )
 }
 
 // Takes the decided errors out of the syndromes, and moves these on to the next frame.

@@ -18,7 +18,7 @@ use receiving::{Frame, Receives};
 pub struct Held {
     pub digits: [u32; 8], // bit a of register s: the digit of stream s received a after the frame that is decided next
     pub decided: [u32; 4], // bit 32 - b of register i: information digit i as decided, b before the frame that is decided next
-    pub erased: Erased<8>,
+    pub erased: Erased,
 }
 
 pub type Session = receiving::Session<Held>;
@@ -58,7 +58,8 @@ impl Receives for Held {
             &card.generators,
             &card.counts,
             &card.checks,
-            &self.erased,
+            &self.erased.registers,
+            self.erased.any,
             sizes,
         );
         let frame = registers::decide(

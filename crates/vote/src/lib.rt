@@ -12,7 +12,6 @@ ghost use Rattle.code.specs.Limits.{most_checks, check_words};
 ghost use Rattle.vote.specs.Voters.{all_voting, decide_voters, decide_marked};
 ghost use Rattle.vote.specs.Voting.{check_by, all_by, ones_by, if_whole, stream_ones_by, decide_by};
 
-use code::erased::Erased;
 use code::{CHECK_STRIDE, CHECK_WORDS, MOST_CHECKS, Sizes};
 use voters::Voters;
 
@@ -127,19 +126,20 @@ pub fn decide(voters: &Voters, checks: &[u32], syndromes: &[u32], k: usize, p: u
 }
 
 // The decided errors of a frame where digits may be erased. While none is, all checks vote.
-pub fn decide_marked<'a, const N: usize>(
+pub fn decide_marked<'a>(
     generators: &'a [u32],
     counts: &'a [u32],
     checks: &'a [u32],
     syndromes: &[u32],
-    erased: &Erased<N>,
+    erased: &[u32],
+    any: u32,
     sizes: Sizes,
 ) -> u32
-    ensures { result ≡ decide_marked generators.now counts.now checks.now syndromes.now erased.now.registers erased.now.any sizes }
+    ensures { result ≡ decide_marked generators.now counts.now checks.now syndromes.now erased.now any sizes }
 {
-    if erased.any == 0 {
+    if any == 0 {
         return decide_all(counts, checks, syndromes, sizes.k, sizes.p);
     }
-    let voters = voters::voting(generators, counts, checks, erased, sizes);
+    let voters = voters::voting(generators, counts, checks, erased, any, sizes);
     decide(&voters, checks, syndromes, sizes.k, sizes.p)
 }

@@ -5,7 +5,6 @@ ghost use Rattle.std.specs.Prelude.{◌≡◌, cond, ◌<◌, drop};
 ghost use Rattle.code.specs.Limits.{most_checks};
 ghost use Rattle.vote.specs.Voters.{voting_by, stream_voters_by, all_voting, voters_by, voters_of};
 
-use code::erased::Erased;
 use code::{CHECK_STRIDE, MOST_CHECKS, Sizes};
 
 // The checks that vote, a word for each stream, and how many they are.
@@ -97,19 +96,20 @@ fn stream_voters<'a>(
 }
 
 // The checks that vote. While nothing is erased the registers of erased digits are not looked at.
-pub fn voting<'a, const N: usize>(
+pub fn voting<'a>(
     generators: &'a [u32],
     counts: &'a [u32],
     checks: &'a [u32],
-    erased: &Erased<N>,
+    erased: &[u32],
+    any: u32,
     sizes: Sizes,
 ) -> Voters
-    ensures { result ≡ voters_of (voters_by generators.now counts.now checks.now erased.now.registers erased.now.any sizes.k sizes.p) }
+    ensures { result ≡ voters_of (voters_by generators.now counts.now checks.now erased.now any sizes.k sizes.p) }
 {
     let mut words = all_checks(counts, sizes.k);
-    if erased.any != 0 {
+    if any != 0 {
         for (i, word) in words.iter_mut().enumerate() {
-            *word = stream_voters(generators, checks, &erased.registers, sizes, i, *word);
+            *word = stream_voters(generators, checks, erased, sizes, i, *word);
         }
     }
     Voters::from(words)

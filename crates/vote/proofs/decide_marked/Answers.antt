@@ -5,13 +5,13 @@ use Rattle.vote.specs.Voting.{decide_by}
 use Rattle.vote.specs.declared.voters.Voters.{Voters}
 use Rattle.vote.proofs.decide_marked.Goals as goal
 
-pub returns-then-erased-eq0 : goal.returns-then-erased-eq0
+pub returns-then-any-eq0 : goal.returns-then-any-eq0
 unfolding decide_marked voters_by
-returns-then-erased-eq0 g c = rw (eq-eqb _ 0 c.if-erased-eq0.true) c.decide_all.ensures
+returns-then-any-eq0 c = rw (eq-eqb _ 0 c.if-any-eq0.true) c.decide_all.ensures
 
 pub returns : goal.returns
 unfolding decide_marked
-returns g c =
+returns c =
     let a = c.args in
     c.decide.ensures
     ∙ ap (λ (v : Voters). decide_by v.words v.counts a.checks.now a.syndromes.now a.sizes.k a.sizes.p) c.voting-voters.ensures

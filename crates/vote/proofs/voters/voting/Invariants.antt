@@ -7,5 +7,5 @@ use Rattle.vote.specs.Voters.{stream_voters_by}
 use Rattle.vote.proofs.voters.voting.Given as goal
 
 abbrev pub invariant-loop-i : goal.invariant-loop-i
-invariant-loop-i g l =
-    l.word-items ≡ up_to l.i (λ b. stream_voters_by l.generators l.checks l.erased.registers l.sizes.k l.sizes.p b (get_or l.initial.word-items b 0)) ++ drop l.i l.initial.word-items
+invariant-loop-i l =
+    l.word-items ≡ up_to l.i (λ b. stream_voters_by l.generators l.checks l.erased l.sizes.k l.sizes.p b (get_or l.initial.word-items b 0)) ++ drop l.i l.initial.word-items
