@@ -62,6 +62,7 @@ fn argument_count(rt: &impl Env) -> usize {
 fn audit_argument(rt: &(impl Env + Files), i: usize, output: &mut [u8; AUDIT_ROOM]) -> Option<usize>
     ensures { IfSome result (λ count. count ≤ length output.new) }
 {
+    // An argument that can't be had has an empty name, which no file has.
     let size = rt.arg(i, output).unwrap_or(0);
     let mut buffer = [0u8; FRONT];
     let length = read_file(rt, output, size, &mut buffer);

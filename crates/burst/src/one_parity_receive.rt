@@ -65,6 +65,7 @@ fn fed_back(word: u64, puts: &[u64; 32], m: usize, errors: u32) -> u64
 }
 
 // The word after the first m frames, for which nothing is handed out.
+// Three lines, as in `parities`, over another state.
 fn filled(card: &Card, puts: &[u64; 32], input: &[u8]) -> u64
     requires tables { OneParity card.now puts.now }
     requires frames { card.now.m ≤ length input.now }

@@ -23,6 +23,7 @@ fn receive_frames(card: &Card, input: &[u8], output: &mut [u8])
     if input.len() < card.m {
         return;
     }
+    // Chosen once a burst: the loops below are apart for speed.
     if card.p == 1 {
         one_parity_receive::receive(card, input, output);
     } else {
@@ -31,6 +32,7 @@ fn receive_frames(card: &Card, input: &[u8], output: &mut [u8])
 }
 
 // A burst under an accepted card, which is lent: a card is large. Every frame is tested before a byte is written.
+// Not one with `send_under`: each of the three tests is of other numbers.
 fn receive_under(card: &Card, input: &[u8], output: &mut [u8]) -> Result<usize, Refusal>
     requires { Guarantees card.now }
     ensures { outcome (answer_of (held result)) output.new ≡ receive_under card.now input.now output.old }

@@ -48,6 +48,7 @@ pub(crate) fn generator_sums(generators: &[u32; 32], k: usize, p: usize) -> [[u3
     sums
 }
 
+// Two arrays: the vote takes the syndromes as they stand.
 #[derive(Clone, Copy)]
 pub(crate) struct Registers {
     pub coming: [u32; 8],

@@ -47,6 +47,7 @@ fn sorted_stream(
 {
     let mut alone = 0;
     let mut left = 0;
+    // Each eighth word: with one parity stream a check has one mask.
     for q in 0..count {
         let mask = checks[i * CHECK_STRIDE + q * 8];
         if joins(mask, alone) {
@@ -100,6 +101,7 @@ impl SortedChecks {
         ensures { result ≡ votes_sorted self.now.alone self.now.several self.now.left i word }
     {
         let mut ones = ones_in(self.alone[i], word);
+        // By index: over that part of the table, that its items are the stream's checks did not close.
         for r in 0..self.left[i].min(MOST_CHECKS) {
             ones += parity(self.several[i * MOST_CHECKS + r], word);
         }

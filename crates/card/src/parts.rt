@@ -8,6 +8,7 @@ ghost use Rattle.card.specs.Parts.{read_by, head_by, sizes_of};
 use crate::{CardRule, Fault, Refusal, fields};
 
 // What the head of a card states.
+// Not code's `Sizes`: it is what the bytes state, the card's number too, before anything is held to the tables.
 #[derive(Clone, Copy)]
 pub(crate) struct Sizes {
     pub number: u8,
@@ -51,6 +52,7 @@ pub(crate) fn read_generators(
 {
     let mut rest = fields::map_field(bytes, start, sizes.k * sizes.p)?;
     let mut at = start + 2;
+    // By place: the table keeps fixed strides. The three lines within are those of `read_checks`, whose loops are one nest that the scope names.
     for i in 0..sizes.k {
         for j in 0..sizes.p {
             generators[i * 8 + j] = fields::standing_mask(bytes, at, sizes.m, rest % 2)?;

@@ -26,6 +26,7 @@ pub fn move_on(registers: &mut [u32], any: u32) -> u32
 // The digit of stream s, a frames after the one that is decided next, is erased if digit a of register s is 1, and digit a of `any` is 1 if a digit of
 // that frame is. While `any` is 0 the registers are not looked at.
 #[derive(Clone, Copy)]
+// `any` is no Option: it has a digit for each frame, and moves on with them.
 pub struct Erased {
     pub registers: [u32; 8],
     pub any: u32,

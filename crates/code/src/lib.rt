@@ -20,6 +20,7 @@ pub const CHECK_STRIDE: usize = MOST_CHECKS * 8;
 pub const CHECK_WORDS: usize = CHECK_STRIDE * 4;
 
 // What a card states; what it does not state is zero, so equal cards are equal values.
+// Tables of fixed strides with their counts beside them, so that a card is a value and needs no heap.
 #[derive(Clone, Copy)]
 pub struct Card {
     pub number: u8,

@@ -26,6 +26,7 @@ pub struct Held {
 pub type Session = receiving::Session<Held>;
 
 // Reads the card. A refused opening hands out a session with the empty card that refuses every call.
+// Not one with the other circuit's: each promises the claims of its own (`OpenPromise`).
 pub fn open(card: &[u8]) -> Opened<Session>
     ensures { OpenPromise card.now result }
 {

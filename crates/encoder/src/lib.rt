@@ -39,6 +39,7 @@ fn closed() -> Session
 }
 
 // Reads the card. A refused opening too hands a session out, which is closed: that is why the verdict stands beside it.
+// Not one with `receiving::open`: another session, closed by a count of its own.
 pub fn open(card: &[u8]) -> Opened<Session>
     ensures { OpenPromise card.now result }
 {

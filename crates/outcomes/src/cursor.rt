@@ -4,6 +4,7 @@ ghost use Rattle.outcomes.specs.Wrote.{Stored};
 
 // The output, and the place of the next byte. One that the output has no place for is not stored, and counts: laid out in no room, bytes are
 // counted.
+// Not std's `io::Cursor`: its write stops at the output's end, and this one counts on.
 #[derive(Drop)]
 pub struct Cursor<'a> {
     pub output: &'a mut [u8],

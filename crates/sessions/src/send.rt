@@ -29,6 +29,7 @@ fn send_frames(session: &mut Session, calls: usize, input: &[u8], frames: &mut C
     requires { calls ≡ length input.now + session.old.card.m }
     ensures { Stored frames.old frames.new (frames_of session.old input.now) }
 {
+    // By turns, as `calls_on` lists them.
     for t in 0..calls {
         if let Ok(frame) = call(session, input, t) {
             frames.put(frame);

@@ -44,6 +44,7 @@ pub fn write_standard(checks: u32, output: &mut [u8]) -> Result<usize, Refusal>
     ensures output_after { outcome (answer_of result) output.new ≡ standard_of checks output.old }
     ensures standard_cards { StandardCards }
 {
+    // `Ok(0)` and no `None`: the count is what `standard_card` answers in C (include/burst.h), and `standard_of` says it.
     if checks < 2 || 7 < checks {
         return Ok(0);
     }

@@ -35,6 +35,7 @@ fn receive<H: Receives>(
 
 impl Sessions {
     // Carries a record out and writes its line. The second receiving session has no figure.
+    // A match and no dyn: one would be chosen by the same match, and the figure is the first circuit's alone.
     fn carry_out(&mut self, rt: &(impl Print + Eprint), record: Record) -> Option<()> {
         match record {
             Record::Receive { number, frame } => {

@@ -67,6 +67,7 @@ fn check_votes<'a>(
 {
     let masks = masks_from(checks, i * CHECK_STRIDE + q * 8);
     let mut met = 0;
+    // By number: beyond the registers that are lent there are zeros.
     for s in 0..8 {
         let touches = orthogonal::touched(generators, masks, sizes.k, sizes.p, s);
         met |= orthogonal::clash(touches, bits::word(erased, s), i, s);

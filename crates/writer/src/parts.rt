@@ -43,6 +43,7 @@ fn generator_map(card: &Card) -> u16
     ensures { result ≡ map_of (all_rows (fields_of card.now).rows) }
 {
     let Sizes { k, p, .. } = card.sizes();
+    // By place: the stride is the table's, and the map shifts by i.
     let mut map: u32 = 0;
     for i in 0..k {
         map += masks::map(&card.generators[i * 8..i * 8 + p]) << (i * p);
