@@ -1,7 +1,7 @@
 -- What the registers of the burst receiver hold of a stream: by this they follow the rule. Nobody has to believe this file: it states why the
 -- receiver works, and its promise does not speak of it.
 -- Assumes nothing.
-use Rattle.std.specs.Prelude.{ℕ, suc, ◌+◌, ◌-◌, ◌*◌, ◌/◌, ◌%◌, ◌^◌, ◌<◌, ◌≤◌, ◌≡◌, cond, List, Option, Some, None, length, get_or, leb, ltb}
+use Rattle.std.specs.Prelude.{ℕ, suc, ◌+◌, ◌-◌, ◌*◌, ◌/◌, ◌%◌, ◌^◌, ◌<◌, ◌≡◌, cond, List, length, get_or, leb, ltb}
 use Rattle.std.specs.Int.Bits.{bit_xor}
 use Rattle.bits.specs.Sums.{sum_below, back}
 use Rattle.bits.specs.Digits.{bit}
@@ -13,7 +13,6 @@ use Rattle.majority.specs.Plain.{decided}
 use Rattle.burst.specs.Sums.{HasStreamSums}
 use Rattle.burst.specs.Registers.{written, in_one, HasPuts}
 use Rattle.burst.specs.declared.registers.Registers.{Registers}
-use Rattle.burst.specs.declared.one_parity_receive.Reached.{Reached}
 
 -- the part of parity digit j at t + a that the information digits of times before t give
 unfoldable pub coming_at : Card → List ℕ → ℕ → ℕ → ℕ → ℕ
@@ -48,14 +47,7 @@ pub record OneParity (c : Card) (puts : List ℕ) : Type 0 where
   pub sums_are : HasStreamSums c.generators c.k 0 (2 ^ c.k) sums
   pub puts_are : HasPuts sums c.k c.m (2 ^ (c.k + 1)) puts
 
--- the loop over frames without errors stops between these two, if it does not come to the end
-abbrev pub StopsWithin : Option Reached → ℕ → ℕ → Type 0
-StopsWithin None from end = Unit
-StopsWithin (Some reached) from end = (from ≤ reached.u) × (reached.u < end)
-
--- it has handed out all frames, or those before frame u: the word of these then had the frame m later taken in
-abbrev pub Through : Card → List ℕ → List ℕ → List ℕ → Option Reached → List ℕ → Type 0
-Through c puts frames output₀ None output = output ≡ written (length frames - c.m) (corrected c frames (decided c frames (length frames - c.m))) output₀
-Through c puts frames output₀ (Some reached) output =
-    (word : ℕ) × (reached.word ≡ bit_xor (word / 2) (get_or puts (get_or frames (reached.u + c.m) 0) 0))
-    × Handing c frames output₀ reached.u (in_one c.m word) output
+-- the frames before frame u are handed out: the word of these then had the frame m later taken in, if there is one
+abbrev pub Through : Card → List ℕ → List ℕ → List ℕ → ℕ → ℕ → List ℕ → Type 0
+Through c puts frames output₀ next u output =
+    (word : ℕ) × (u + c.m < length frames → next ≡ bit_xor (word / 2) (get_or puts (get_or frames (u + c.m) 0) 0)) × Handing c frames output₀ u (in_one c.m word) output

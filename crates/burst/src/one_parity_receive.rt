@@ -9,7 +9,7 @@ ghost use Rattle.majority.specs.Plain.{decoded};
 ghost use Rattle.vote.specs.Voting.{decide_by_all};
 ghost use Rattle.burst_vote.specs.Sorted.{Sorted};
 ghost use Rattle.burst.specs.Registers.{AtLeast, AllWithin, in_one, put_of, HasPuts};
-ghost use Rattle.burst.specs.Held.{OneParity, Before, Handing, Through, StopsWithin};
+ghost use Rattle.burst.specs.Held.{OneParity, Before, Handing, Through};
 
 use crate::registers::{corrected, stream_sums};
 use burst_vote::{SortedChecks, sorted};
@@ -108,8 +108,8 @@ fn voted(card: &Card, sorted: &SortedChecks, least: Option<u32>, held: u32) -> u
     sorted.decide(&card.counts, held, card.k)
 }
 
-// Where there is a syndrome that is 1: the word with the frame m after frame u taken in.
-#[derive(Drop)]
+// How far the frames are handed out: the frame that is next, and the word with the frame m later taken in, if there is one.
+#[derive(Clone, Copy)]
 struct Reached {
     word: u64,
     u: usize,
@@ -125,24 +125,25 @@ fn hand_through(
     from: usize,
     input: &[u8],
     output: &mut [u8],
-) -> Option<Reached>
+) -> Reached
     requires sizes { (k ≤ 4) × (m ≤ 31) }
     requires frames { from + m ≤ length input.now }
     requires room { length input.now ≤ length output.old + m }
     requires within { AllWithin (k + 1) input.now }
-    ensures stops { StopsWithin result from (length input.now - m) }
+    ensures stops { (from ≤ result.u) × (result.u ≤ length input.now - m) }
     ensures through { (c : Card) (output₀ : List ℕ) → OneParity c puts.now → k ≡ c.k → m ≡ c.m → length output₀ ≡ length output.old
-        → Handing c input.now output₀ from (in_one c.m before) output.old → Through c puts.now input.now output₀ result output.new }
+        → Handing c input.now output₀ from (in_one c.m before) output.old → Through c puts.now input.now output₀ result.word result.u output.new }
 {
+    let end = input.len() - m;
     let mut word = before;
-    for u in from..input.len() - m {
+    for u in from..end {
         word = taken_in(word, puts, input[u + m]);
         if syndromes(word, m) != 0 {
-            return Some(Reached { word, u });
+            return Reached { word, u };
         }
         output[u] = corrected(input[u], k, 0);
     }
-    None
+    Reached { word, u: end }
 }
 
 // A whole burst of m frames or more: each but the last m is handed out, with its errors corrected and fed back once the frame m later is taken in.
@@ -159,12 +160,13 @@ pub(crate) fn receive(card: &Card, input: &[u8], output: &mut [u8])
     let puts = puts(&stream_sums(&card.generators, k, 0), k, m);
     let sorted_checks = sorted(&card.counts, &card.checks, k);
     let least = least_checks(&card.counts, &sorted_checks.left, k);
-    let mut word = filled(card, &puts, input);
-    let mut u = 0;
-    while let Some(reached) = hand_through(&puts, k, m, word, u, input, output) {
+    let end = input.len() - m;
+    let first = filled(card, &puts, input);
+    let mut reached = hand_through(&puts, k, m, first, 0, input, output);
+    while reached.u < end {
         let errors = voted(card, &sorted_checks, least, syndromes(reached.word, m));
         output[reached.u] = corrected(input[reached.u], k, errors);
-        word = fed_back(reached.word, &puts, m, errors);
-        u = reached.u + 1;
+        let word = fed_back(reached.word, &puts, m, errors);
+        reached = hand_through(&puts, k, m, word, reached.u + 1, input, output);
     }
 }

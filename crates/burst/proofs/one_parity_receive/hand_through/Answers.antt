@@ -1,6 +1,7 @@
-use Prim.Native.Nat.{◌+◌}
-use mathlib.Core.Path.{sym, ◌∙◌}
+use Prim.Native.Nat.{◌+◌, ◌-◌}
+use mathlib.Core.Path.{◌≡◌, sym, ◌∙◌}
 use native.Mathlib.Omega.{arith}
+use lib.ListN.{length}
 use Rattle.burst.proofs.OneParityReceiving.{in_table, word-through}
 use Rattle.burst.proofs.one_parity_receive.hand_through.Goals as goal
 
@@ -16,4 +17,10 @@ loop-u-preserved c = λ card output₀ tables ek em same handing.
 pub returns-then-syndromes-ne0-clause-through : goal.returns-then-syndromes-ne0-clause-through
 returns-then-syndromes-ne0-clause-through c = λ card output₀ tables ek em same handing.
     let l = c.loop-u in
-    (l.word, rw em at c.taken_in-word.ensures, l.invariant card output₀ tables ek em same handing)
+    (l.word, λ more. rw em at c.taken_in-word.ensures, l.invariant card output₀ tables ek em same handing)
+
+pub returns-clause-through : goal.returns-clause-through
+returns-clause-through c = λ card output₀ tables ek em same handing.
+    let l = c.loop-u in
+    let e : l.u ≡ length c.args.input.now - c.args.m = omega arith in
+    (l.word, λ more. absurd (omega arith), rw e at (l.invariant card output₀ tables ek em same handing))
