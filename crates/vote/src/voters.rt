@@ -75,7 +75,7 @@ fn check_votes<'a>(
     met == 0
 }
 
-// Those of the checks of stream i in a word that vote.
+// Those of the checks of stream i in a word that vote. Those after the last in the word are not worked out.
 fn stream_voters<'a>(
     generators: &'a [u32],
     checks: &'a [u32],
@@ -87,8 +87,9 @@ fn stream_voters<'a>(
     requires { i < 4 }
     ensures { result ≡ stream_voters_by generators.now checks.now erased.now sizes.k sizes.p i all }
 {
+    let count = 32 - (all % (1 << MOST_CHECKS)).leading_zeros() as usize;
     let mut word = 0;
-    for q in 0..MOST_CHECKS {
+    for q in 0..count {
         if bits::digit(all, q) == 1 && check_votes(generators, checks, erased, sizes, i, q) {
             word += 1 << q;
         }
@@ -107,11 +108,13 @@ pub fn voting<'a>(
 ) -> Voters
     ensures { result ≡ voters_of (voters_by generators.now counts.now checks.now erased.now any sizes.k sizes.p) }
 {
-    let mut words = all_checks(counts, sizes.k);
-    if any != 0 {
-        for (i, word) in words.iter_mut().enumerate() {
-            *word = stream_voters(generators, checks, erased, sizes, i, *word);
-        }
+    let all = all_voting(counts, sizes.k);
+    if any == 0 {
+        return all;
+    }
+    let mut words = all.words;
+    for (i, word) in words.iter_mut().enumerate() {
+        *word = stream_voters(generators, checks, erased, sizes, i, *word);
     }
     Voters::from(words)
 }
