@@ -29,8 +29,11 @@ impl<'a> Sender for ByHistory<'a> {
     fn frame(&mut self, info: u8) -> u8 {
         let generators = self.generators;
         let info = u32::from(info);
-        code::put_history(&mut self.history, self.k, info);
-        code::frame(generators, &self.history, self.k, self.p, info) as u8
+        // In a local: it is gone through by index, and beside it in memory the sizes would be read anew in every frame.
+        let mut history = self.history;
+        code::put_history(&mut history, self.k, info);
+        self.history = history;
+        code::frame(generators, &history, self.k, self.p, info) as u8
     }
 }
 

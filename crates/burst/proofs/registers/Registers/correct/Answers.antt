@@ -1,6 +1,7 @@
 use mathlib.Core.Path.{refl, sym, ap}
 use mathlib.Core.Logic.{inl, inr}
 use native.Mathlib.Omega.{arith}
+use borrow.Author.Rules.{rules}
 use Rattle.vote.proofs.Voting.{decide-all-none}
 use Rattle.burst.specs.declared.registers.Registers.{Registers}
 use Rattle.burst.proofs.Deciding.{decided-small, voted-errors}
@@ -16,7 +17,7 @@ returns-then-held-eq0 c =
     }
 
 pub take_out-requires : goal.take_out-requires
-take_out-requires c = (c.requires.p_most, decided-small _ _ _ _ _ c.decide_all-errors.ensures)
+take_out-requires c = search (rules, decided-small)
 
 pub returns-then-errors-ne0 : goal.returns-then-errors-ne0
 returns-then-errors-ne0 c =
