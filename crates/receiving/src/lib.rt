@@ -67,20 +67,28 @@ pub fn frames_at_opening(verdict: Result<(), Fault>) -> u32
     }
 }
 
-// Reads the card. A refused opening hands out a session with the empty card that refuses every call.
-pub fn open<H: Receives>(card: &[u8]) -> Opened<Session<H>>
-    ensures { OpensFresh (circuit_of H.holding) card.now (outcome_of result.verdict) result.session }
+// A session with a card, before its first frame.
+fn fresh<H: Receives>(verdict: Result<(), Fault>, card: Card) -> Opened<Session<H>>
+    ensures verdict { result.verdict ≡ verdict }
+    ensures session { result.session ≡ (circuit_of H.holding).fresh card (counted_at (outcome_of verdict)) }
 {
-    let (verdict, card) = match card::read_card(CardRule::Present, card) {
-        Ok(card) => (Ok(()), card),
-        Err(fault) => (Err(fault), card::empty_card()),
-    };
     let session = Session {
         card,
         held: H::nothing(),
         received: frames_at_opening(verdict),
     };
     Opened { verdict, session }
+}
+
+// Reads the card. A refused opening hands out a session with the empty card that refuses every call. Each card goes straight into its session: a card is
+// large.
+pub fn open<H: Receives>(card: &[u8]) -> Opened<Session<H>>
+    ensures { OpensFresh (circuit_of H.holding) card.now (outcome_of result.verdict) result.session }
+{
+    match card::read_card(CardRule::Present, card) {
+        Ok(card) => fresh(Ok(()), card),
+        Err(fault) => fresh(Err(fault), card::empty_card()),
+    }
 }
 
 // A byte is its frame, with nothing erased, unless it has a digit beyond its n streams.

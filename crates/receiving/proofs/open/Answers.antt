@@ -1,18 +1,14 @@
-use mathlib.Core.Path.{◌≡◌, refl}
-use Rattle.card.specs.Outcome.{outcome_of, card_in}
+use mathlib.Core.Path.{refl}
 use Rattle.receiving.specs.Receive.{circuit_of}
 use Rattle.receiving.proofs.Opening.{opens-fresh}
 use Rattle.receiving.proofs.open.Goals as goal
-use Rattle.receiving.proofs.open.Goals.{in-Ok, in-Err}
 
-pub returns : goal.returns
-returns g c =
-    let verdict : outcome_of c.match-read_card.verdict.0 ≡ outcome_of c.read_card.result =
-    elim c.match-read_card.branch [ in-Ok w ↦ rw (w.verdict-is, w.in-Ok.is) | in-Err w ↦ rw (w.verdict-is, w.in-Err.is) ] in
-    let card : c.match-read_card.verdict.1 ≡ card_in c.read_card.result =
-    elim c.match-read_card.branch [
-      | in-Ok w ↦ rw (w.verdict-is, w.in-Ok.is)
-      | in-Err w ↦ rw (w.verdict-is, w.in-Err.is) w.empty_card.ensures
-    ] in
-    opens-fresh (circuit_of g.H.Receives.holding) (λ card n. refl) c.args.card.now c.read_card.result c.read_card.ensures _ _ verdict
-    (cc (card, c.nothing.ensures, c.frames_at_opening.ensures))
+pub returns-in-Ok : goal.returns-in-Ok
+returns-in-Ok g c =
+    opens-fresh (circuit_of g.H.Receives.holding) (λ card n. refl) c.args.card.now c.read_card.result c.read_card.ensures _ _
+    (rw (c.fresh.ensures.verdict, c.in-Ok.is)) (rw (c.fresh.ensures.session, c.fresh.ensures.verdict, c.in-Ok.is))
+
+pub returns-in-Err : goal.returns-in-Err
+returns-in-Err g c =
+    opens-fresh (circuit_of g.H.Receives.holding) (λ card n. refl) c.args.card.now c.read_card.result c.read_card.ensures _ _
+    (rw (c.fresh-in-Err.ensures.verdict, c.in-Err.is)) (rw (c.fresh-in-Err.ensures.session, c.fresh-in-Err.ensures.verdict, c.empty_card.ensures, c.in-Err.is))
