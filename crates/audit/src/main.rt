@@ -2,6 +2,7 @@
 #![tactic(auto)]
 
 ghost use Rattle.std.specs.Prelude.{◌≤◌, length, IfSome};
+ghost use Rattle.filling.specs.Came.{came};
 
 use listing::auditing;
 use listing::auditing::AUDIT_ROOM;
@@ -20,31 +21,35 @@ fn place(file: &mut impl Seek, at: SeekFrom) -> Option<u64> {
 }
 
 // Reads an open file: how many bytes came. It has to end where it ended before the reading, and the reading there too unless the buffer is full: otherwise it
-// was changed meanwhile, and was not read. Where a pipe ends can't be asked for: there is no answer, and that tells nothing.
-fn read_open(file: &mut (impl Read + Seek), buffer: &mut [u8]) -> Option<usize>
-    ensures { IfSome result (λ n. n ≤ length buffer.new) }
+// was changed meanwhile, and `Err` has how many came, as where a read fails. Where a pipe ends can't be asked for: there is no answer, and that tells nothing.
+fn read_open(file: &mut (impl Read + Seek), buffer: &mut [u8]) -> Result<usize, usize>
+    ensures { came result ≤ length buffer.new }
 {
     let before = place(file, SeekFrom::End(0));
     place(file, SeekFrom::Start(0));
     let read = filling::fill(file, buffer);
     let here = place(file, SeekFrom::Current(0));
     let after = place(file, SeekFrom::End(0));
-    let length = read.ok()?;
+    let length = read?;
     let stayed = before == after && (here == after || length == buffer.len());
     if before.is_none() || stayed {
-        Some(length)
+        Ok(length)
     } else {
-        None
+        Err(length)
     }
 }
 
-// Reads the file whose name, of this size, stands at the front of the bytes. A name that is not UTF-8 can't be given to the library, and is not read.
-fn read_file(rt: &impl Files, named: &[u8], size: usize, buffer: &mut [u8]) -> Option<usize>
+// Reads the file whose name, of this size, stands at the front of the bytes. A name that is not UTF-8 can't be given to the library, and no byte comes of it.
+fn read_file(rt: &impl Files, named: &[u8], size: usize, buffer: &mut [u8]) -> Result<usize, usize>
     requires { size ≤ length named.now }
-    ensures { IfSome result (λ n. n ≤ length buffer.new) }
+    ensures { came result ≤ length buffer.new }
 {
-    let name = str::from_utf8(&named[..size]).ok()?;
-    let mut file = fs::open(rt, name).ok()?;
+    let Ok(name) = str::from_utf8(&named[..size]) else {
+        return Err(0);
+    };
+    let Ok(mut file) = fs::open(rt, name) else {
+        return Err(0);
+    };
     read_open(&mut file, buffer)
 }
 
@@ -65,8 +70,10 @@ fn audit_argument(rt: &(impl Env + Files), i: usize, output: &mut [u8; AUDIT_ROO
     // An argument that can't be had has an empty name, which no file has.
     let size = rt.arg(i, output).unwrap_or(0);
     let mut buffer = [0u8; FRONT];
-    let length = read_file(rt, output, size, &mut buffer);
-    let file = length.map(|length| &buffer[..length]);
+    let file = match read_file(rt, output, size, &mut buffer) {
+        Ok(length) => Ok(&buffer[..length]),
+        Err(length) => Err(&buffer[..length]),
+    };
     auditing::audit(file, output, size)
 }
 

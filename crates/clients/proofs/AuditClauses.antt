@@ -5,7 +5,7 @@ use mathlib.Core.List.{List, ◌++◌}
 use native.Mathlib.Omega.{arith}
 use lib.ListN.{length, take}
 use lib.Seq.{take_at}
-use Rattle.std.specs.Prelude.{Option, Some, None}
+use Rattle.std.specs.Prelude.{Option, Some, None, Result, Ok, Err}
 use Rattle.card.specs.Bench.{card_p, stored_p}
 use Rattle.card.specs.Outcome.{CardOutcome}
 use Rattle.card.specs.Reading.{read_card}
@@ -21,30 +21,30 @@ none-told None e = refl
 none-told (Some count) e = absurd (omega arith)
 
 module _ {output after : List ℕ} {size : ℕ} {r : Option ℕ} where
-  pub passes-P : Audits (Some card_p) output size r after → (r ≡ None) × (after ≡ output)
+  pub passes-P : Audits (Ok card_p) output size r after → (r ≡ None) × (after ≡ output)
   unfolding audit_line passes
   passes-P promise =
-      let none = promise.good_passes card_p refl (ap (λ (r : CardOutcome). r.outcome) read-P) in
+      let none = promise.good_passes (ap (λ (r : CardOutcome). r.outcome) read-P) in
       let is = none-told r (promise.counted ∙ ap passes none) in
       (is, rw none at promise.told.bytes_are)
 
   -- by why the file does not pass
-  module _ {file : Option (List ℕ)} (promise : Audits file output size r after) where
+  module _ {file : Result (List ℕ) (List ℕ)} (promise : Audits file output size r after) where
     tells : (why : List ℕ) → fault file ≡ why → take (line_count r) after ≡ audit_line (name_in output size) why
     tells why is = front-is promise.told ∙ ap (audit_line (name_in output size)) is
 
     fails : (why : List ℕ) → fault file ≡ why → passes why ≡ 0 → (take (line_count r) after ≡ audit_line (name_in output size) why) × (passed r ≡ 0)
     fails why is none = (tells why is, promise.counted ∙ ap passes is ∙ none)
 
-  pub told-stored-P : Audits (Some stored_p) output size r after
+  pub told-stored-P : Audits (Ok stored_p) output size r after
       → (take (line_count r) after ≡ audit_line (name_in output size) (refused_line 18 2)) × (passed r ≡ 0)
   unfolding fault_under
   told-stored-P promise = fails promise (refused_line 18 2) (short stored_p (omega arith) ∙ ap fault_under read-stated-P) (refused-fails 18 2)
 
-  pub told-half-P : Audits None output size r after → (take (line_count r) after ≡ audit_line (name_in output size) not_read_line) × (passed r ≡ 0)
-  told-half-P promise = fails promise not_read_line not_read not_read-fails
+  pub told-half-P : Audits (Err card_p) output size r after → (take (line_count r) after ≡ audit_line (name_in output size) not_read_line) × (passed r ≡ 0)
+  told-half-P promise = fails promise not_read_line (not_read card_p) not_read-fails
 
-  module _ {bytes : List ℕ} (promise : Audits (Some bytes) output size r after) where
+  module _ {bytes : List ℕ} (promise : Audits (Ok bytes) output size r after) where
     -- at most 2,048 bytes are read as a card
     pub read_whole : length bytes ≡ 2048 → take (line_count r) after ≡ audit_line (name_in output size) (fault_under (read_card bytes).outcome)
     read_whole l = tells promise (fault_under (read_card bytes).outcome) (short bytes (omega arith))
@@ -52,5 +52,5 @@ module _ {output after : List ℕ} {size : ℕ} {r : Option ℕ} where
     pub told-long : length bytes ≡ 2049 → (take (line_count r) after ≡ audit_line (name_in output size) too_long_line) × (passed r ≡ 0)
     told-long l = fails promise too_long_line (too_long bytes (omega arith)) too_long-fails
 
-    pub front-enough : length bytes ≡ 2049 → (more : List ℕ) → fault (Some (bytes ++ more)) ≡ too_long_line
-    front-enough long more = promise.by_the_front bytes (bytes ++ more) refl (sym (take_at bytes more 2049 long)) ∙ too_long bytes (omega arith)
+    pub front-enough : length bytes ≡ 2049 → (more : List ℕ) → fault (Ok (bytes ++ more)) ≡ too_long_line
+    front-enough long more = promise.by_the_front (bytes ++ more) (sym (take_at bytes more 2049 long)) ∙ too_long bytes (omega arith)

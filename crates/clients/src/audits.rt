@@ -1,5 +1,5 @@
 // Clients of the promise of an audit.
-ghost use Rattle.std.specs.Prelude.{◌≡◌, None, Some, List, ◌++◌, ℕ, take};
+ghost use Rattle.std.specs.Prelude.{◌≡◌, None, Ok, List, ◌++◌, ℕ, take};
 ghost use Rattle.card.specs.Reading.{read_card};
 ghost use Rattle.outcomes.specs.Listing.{too_long_line, refused_line};
 ghost use Rattle.listing.specs.Auditing.{name_in, not_read_line, fault_under, fault, audit_line, line_count, passed};
@@ -12,21 +12,21 @@ use listing::auditing::AUDIT_ROOM;
 pub fn p_passes(output: &mut [u8; AUDIT_ROOM], size: usize) -> Option<usize>
     ensures { (result ≡ None) × (output.new ≡ output.old) }
 {
-    auditing::audit(Some(&P), output, size)
+    auditing::audit(Ok(&P), output, size)
 }
 
 // P with its defaults stated is refused, by the present rule, and not counted: `told`, `counted`.
 pub fn stored_p_is_told(output: &mut [u8; AUDIT_ROOM], size: usize) -> Option<usize>
     ensures { (take (line_count result) output.new ≡ audit_line (name_in output.old size) (refused_line 18 2)) × (passed result ≡ 0) }
 {
-    auditing::audit(Some(&STORED_P), output, size)
+    auditing::audit(Ok(&STORED_P), output, size)
 }
 
-// A file that was not read to its end is no card, whatever bytes came of it, P's too: no one hands them in.
+// What came of a file that was not read to its end is no card, though it be P's bytes.
 pub fn half_read_p_is_not_read(output: &mut [u8; AUDIT_ROOM], size: usize) -> Option<usize>
     ensures { (take (line_count result) output.new ≡ audit_line (name_in output.old size) not_read_line) × (passed result ≡ 0) }
 {
-    auditing::audit(None, output, size)
+    auditing::audit(Err(&P), output, size)
 }
 
 // 2,048 bytes are read.
@@ -37,7 +37,7 @@ pub fn longest_is_read(
 ) -> Option<usize>
     ensures { take (line_count result) output.new ≡ audit_line (name_in output.old size) (fault_under (read_card bytes.now).outcome) }
 {
-    auditing::audit(Some(bytes), output, size)
+    auditing::audit(Ok(bytes), output, size)
 }
 
 // One more is too long, and what follows it changes nothing: `by_the_front`.
@@ -47,7 +47,7 @@ pub fn longer_is_too_long(
     size: usize,
 ) -> Option<usize>
     ensures line_is { (take (line_count result) output.new ≡ audit_line (name_in output.old size) too_long_line) × (passed result ≡ 0) }
-    ensures by_the_front { (more : List ℕ) → fault (Some (front.now ++ more)) ≡ too_long_line }
+    ensures by_the_front { (more : List ℕ) → fault (Ok (front.now ++ more)) ≡ too_long_line }
 {
-    auditing::audit(Some(front), output, size)
+    auditing::audit(Ok(front), output, size)
 }

@@ -8,23 +8,22 @@ use lib.ListN.{length, take, drop, length-append, length-take}
 use lib.Seq.{sets, sets-eq, take_all, length-take-le}
 use borrow.Author.Tests.{lt-ltb, le-ltb}
 use Rattle.bits.proofs.Cases.{le-or-lt}
-use Rattle.card.specs.Outcome.{CardOutcome}
+use Rattle.card.specs.Outcome.{CardOutcome, accepted}
 use Rattle.card.specs.Reading.{read_card}
 use Rattle.card.specs.declared.CardRule.TheVariants.{Present}
 use Rattle.outcomes.specs.Text.{text, line}
 use Rattle.outcomes.specs.Listing.{too_long_line, refused_line}
 use Rattle.outcomes.specs.Wrote.{Stored}
 use Rattle.listing.specs.AtFront.{AtFront}
-use Rattle.listing.specs.Auditing.{most_name, audit_room, name_in, not_read_line, fault_under, fault, audit_line, passes, line_count, passed, bytes_of, Audits}
+use Rattle.listing.specs.Auditing.{most_name, audit_room, name_in, not_read_line, fault_under, fault, audit_line, passes, line_count, passed, came_of, Audits}
 use Rattle.listing.specs.declared.stored.Why.{Why}
 use Rattle.listing.specs.declared.stored.Why.TheVariants.{NotRead, TooLong, Refused}
 use Rattle.listing.specs.Stored.{why_line, why_not, Passes, ReadStored}
-use Rattle.std.specs.Option.{ok_or}
 use Rattle.code.specs.declared.Card.{Card}
-use denote.Ref.{Bor}
 use Rattle.outcomes.specs.declared.cursor.Cursor.{Cursor}
 use Rattle.card.specs.Refusals.{number_of}
-use Rattle.std.proofs.Common.{Option, None, Some, Result, Ok, Err}
+use Rattle.listing.proofs.AcceptedLength.{accepted-short}
+use Rattle.std.proofs.Common.{Option, Result, Ok, Err}
 
 -- ---- nothing written
 pub nothing : (room : ℕ) (output : List ℕ) → AtFront room [] output 0 output
@@ -92,75 +91,75 @@ why-fails TooLong = too_long-fails
 why-fails (Refused fault) = refused-fails (number_of fault.refusal) fault.offset
 
 -- ---- each case
-pub not_read : fault None ≡ not_read_line
+pub not_read : (bytes : List ℕ) → fault (Err bytes) ≡ not_read_line
 unfolding fault
-not_read = refl
+not_read bytes = refl
 
-pub too_long : (bytes : List ℕ) → 2048 < length bytes → fault (Some bytes) ≡ too_long_line
+pub too_long : (bytes : List ℕ) → 2048 < length bytes → fault (Ok bytes) ≡ too_long_line
 unfolding fault
 too_long bytes l = rw (lt-ltb 2048 (length bytes) l)
 
-pub short : (bytes : List ℕ) → length bytes ≤ 2048 → fault (Some bytes) ≡ fault_under (read_card bytes).outcome
+pub short : (bytes : List ℕ) → length bytes ≤ 2048 → fault (Ok bytes) ≡ fault_under (read_card bytes).outcome
 unfolding fault
 short bytes l = rw (le-ltb 2048 (length bytes) l)
 
-by_the_front : (bytes all : List ℕ) → bytes ≡ take 2049 all → fault (Some all) ≡ fault (Some bytes)
+by_the_front : (bytes all : List ℕ) → bytes ≡ take 2049 all → fault (Ok all) ≡ fault (Ok bytes)
 by_the_front bytes all e =
     ⊎_elim
-    (λ l. ap (λ (x : List ℕ). fault (Some x)) (sym (e ∙ take_all 2049 all l)))
+    (λ l. ap (λ (x : List ℕ). fault (Ok x)) (sym (e ∙ take_all 2049 all l)))
     (λ l. too_long all (omega arith) ∙ sym (too_long bytes (omega (arith, ap length e, length-take 2049 all))))
     (le-or-lt (length all) 2049)
 
--- ---- whether a file passes, by what came of reading it
-pub unread-passes : (file : Option (Bor (List ℕ))) (why : Why) → Err why ≡ ok_or file NotRead → Passes (bytes_of file) (Err why)
-unfolding why_not why_line
-unread-passes None why e =
-    let is : why ≡ NotRead = cc in
-    subst (λ (why : Why). Passes None (Err why)) (sym is) (record { reason = sym not_read; good_passes = λ bytes e a. absurd (cc) })
-unread-passes (Some bytes) why e = absurd (cc)
+-- no accepted card is too long
+good_passes : (bytes : List ℕ) → (read_card bytes).outcome ≡ accepted → fault (Ok bytes) ≡ []
+unfolding fault_under
+good_passes bytes e = short bytes (omega (arith, accepted-short bytes Present e)) ∙ ap fault_under e
 
-pub was_read : (file : Option (Bor (List ℕ))) (bytes : Bor (List ℕ)) → Ok bytes ≡ ok_or file NotRead → bytes_of file ≡ Some bytes.now
-was_read None bytes e = absurd (cc)
-was_read (Some given) bytes e = let is : given ≡ bytes = cc in ap (λ (b : Bor (List ℕ)). Some b.now) is
+-- ---- whether a file passes, by what came of reading it
+passes-by : (file : Result (List ℕ) (List ℕ)) (r : Result (Unit {0}) Why) → why_not r ≡ fault file → Passes file r
+passes-by file r is = record { reason = is; good_passes = good_passes (came_of file) }
 
 module _ (bytes : List ℕ) where
-  pub refused-passes : (why : Why) → ReadStored Present bytes (Err why) → Passes (Some bytes) (Err why)
+  pub unread-passes : Passes (Err bytes) (Err NotRead)
+  unfolding why_not why_line
+  unread-passes = passes-by (Err bytes) (Err NotRead) (sym (not_read bytes))
+
+  pub refused-passes : (why : Why) → ReadStored Present bytes (Err why) → Passes (Ok bytes) (Err why)
   unfolding why_not why_line fault_under
   refused-passes NotRead read = absurd read
-  refused-passes TooLong read =
-      record { reason = sym (too_long bytes read.0); good_passes = λ others e a. absurd (let is : others ≡ bytes = cc in read.1 (ap (λ (b : List ℕ). (read_card b).outcome) (sym is) ∙ a)) }
+  refused-passes TooLong read = passes-by (Ok bytes) (Err TooLong) (sym (too_long bytes read.0))
   refused-passes (Refused why) read =
-      let outcome = ap (λ (r : CardOutcome). r.outcome) read.1.is_read in
-      record {
-        reason = ap fault_under outcome ∙ sym (short bytes read.0);
-        good_passes = λ others e a. absurd (let is : others ≡ bytes = cc in let same = ap (λ (b : List ℕ). (read_card b).outcome) is in cc (outcome, same, a));
-      }
+      passes-by (Ok bytes) (Err (Refused why))
+      (ap fault_under (ap (λ (r : CardOutcome). r.outcome) read.1.is_read) ∙ sym (short bytes read.0))
 
-  pub accepted-passes : (card : Card) → ReadStored Present bytes (Ok card) → Passes (Some bytes) (Ok tt)
-  unfolding why_not fault_under
+  pub accepted-passes : (card : Card) → ReadStored Present bytes (Ok card) → Passes (Ok bytes) (Ok tt)
+  unfolding why_not
   accepted-passes card read =
-      let none : fault (Some bytes) ≡ [] = short bytes read.0 ∙ ap fault_under (sym (ap (λ (r : CardOutcome). r.outcome) read.1.is_read)) in
-      record { reason = sym none; good_passes = λ others e a. none }
+      passes-by (Ok bytes) (Ok tt) (sym (good_passes bytes (sym (ap (λ (r : CardOutcome). r.outcome) read.1.is_read))))
 
 -- ---- the promise of `audit`, from the answer and the line that was written
-module _ (file : Option (List ℕ)) (output : List ℕ) (size : ℕ) where
-  audits : {came : Result (Unit {0}) Why} (r : Option ℕ) {after : List ℕ} → Passes file came
+module _ (file : Result (List ℕ) (List ℕ)) (output : List ℕ) (size : ℕ) where
+  pub audits : {came : Result (Unit {0}) Why} {r : Option ℕ} {after : List ℕ} → Passes file came
       → AtFront audit_room (audit_line (name_in output size) (fault file)) output (line_count r) after
       → passed r ≡ passes (fault file) → Audits file output size r after
-  audits r pass w p =
-      record {
-        told = w;
-        counted = p;
-        good_passes = pass.good_passes;
-        by_the_front = λ bytes all e t. by_the_front bytes all t ∙ ap fault (sym e);
-      }
+  audits pass w p = record { told = w; counted = p; good_passes = pass.good_passes; by_the_front = by_the_front (came_of file) }
 
   -- there is no reason, and no line
-  pub audits-passed : Passes file (Ok tt) → Audits file output size None output
-  unfolding audit_line passes why_not
-  audits-passed pass = audits None pass (rw (sym pass.reason) (nothing audit_room output)) (rw (sym pass.reason))
+  module _ (pass : Passes file (Ok tt)) where
+    pub no-line : AtFront audit_room (audit_line (name_in output size) (fault file)) output 0 output
+    unfolding audit_line why_not
+    no-line = rw (sym pass.reason) (nothing audit_room output)
 
-  pub audits-told : (why : Why) {count : ℕ} {after : List ℕ} → Passes file (Err why)
-      → AtFront audit_room (audit_line (name_in output size) (why_line why)) output count after → Audits file output size (Some count) after
-  unfolding why_not
-  audits-told why {count} pass w = audits (Some count) pass (rw (sym pass.reason) w) (sym (ap passes (sym pass.reason) ∙ why-fails why))
+    pub counts : 1 ≡ passes (fault file)
+    unfolding passes why_not
+    counts = rw (sym pass.reason)
+
+  module _ (why : Why) (pass : Passes file (Err why)) where
+    pub its-line : {count : ℕ} {after : List ℕ} → AtFront audit_room (audit_line (name_in output size) (why_line why)) output count after
+        → AtFront audit_room (audit_line (name_in output size) (fault file)) output count after
+    unfolding why_not
+    its-line w = rw (sym pass.reason) w
+
+    pub counts-nothing : 0 ≡ passes (fault file)
+    unfolding why_not
+    counts-nothing = sym (ap passes (sym pass.reason) ∙ why-fails why)

@@ -1,8 +1,8 @@
 -- The decimal digits of a number: the last one, and how many there are.
 use Prim.Native.Nat.{ℕ, zero, suc, ◌/◌, ◌%◌, ◌^◌, ◌≤◌, ◌<◌}
-use mathlib.Core.Path.{◌≡◌, refl, sym, ap, ◌∙◌}
+use mathlib.Core.Path.{◌≡◌, refl, sym, ap, ap₂, ◌∙◌}
 use mathlib.Core.Logic.{⊎_elim}
-use mathlib.Core.List.{List, [], ◌∷◌, ◌++◌}
+use mathlib.Core.List.{List, [], ◌∷◌, ◌++◌, append_assoc}
 use native.Mathlib.Nat.{pow-suc}
 use native.Mathlib.Omega.{arith}
 use lib.ListN.{length, length-append}
@@ -39,6 +39,21 @@ unfolding decimal
 decimal-last zero h = absurd (omega arith)
 decimal-last (suc n) h =
     last-digit n (suc n) h ∙ ap (λ (s : List ℕ). s ++ (glyph (suc n % 10) ∷ [])) (same_digits n (suc n / 10) (suc n / 10) (omega arith) (omega arith))
+
+-- a number of two digits, and of more: what stands before the last two, and these
+pub decimal-two : (n : ℕ) → 10 ≤ n → n < 100 → decimal n ≡ glyph (n / 10) ∷ glyph (n % 10) ∷ []
+decimal-two n h l = decimal-last n h ∙ ap (λ (s : List ℕ). s ++ (glyph (n % 10) ∷ [])) (decimal_digit (n / 10) (omega arith))
+
+pub decimal-more : (n : ℕ) → 100 ≤ n → decimal n ≡ decimal (n / 100) ++ (glyph (n % 100 / 10) ∷ glyph (n % 100 % 10) ∷ [])
+decimal-more n h =
+    let hundreds : n / 10 / 10 ≡ n / 100 = omega arith in
+    let tens : n / 10 % 10 ≡ n % 100 / 10 = omega arith in
+    let ones : n % 10 ≡ n % 100 % 10 = omega arith in
+    decimal-last n (omega arith)
+    ∙ ap (λ (s : List ℕ). s ++ (glyph (n % 10) ∷ [])) (decimal-last (n / 10) (omega arith))
+    ∙ append_assoc (decimal (n / 10 / 10)) (glyph (n / 10 % 10) ∷ []) (glyph (n % 10) ∷ [])
+    ∙ ap (λ (m : ℕ). decimal m ++ (glyph (n / 10 % 10) ∷ glyph (n % 10) ∷ [])) hundreds
+    ∙ ap₂ (λ (a b : ℕ). decimal (n / 100) ++ (glyph a ∷ glyph b ∷ [])) tens ones
 
 -- a number below 10 ^ (d + 1) has at most d + 1 digits
 pub decimal-length : (d n : ℕ) → n < 10 ^ suc d → length (decimal n) ≤ suc d

@@ -5,6 +5,7 @@ pub mod Room
 pub mod FirstBeyond
 pub mod HandedOut
 pub mod AtFront
+pub mod AcceptedLength
 pub mod Audited
 pub mod Listed
 pub mod Rewritten

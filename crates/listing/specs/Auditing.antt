@@ -1,9 +1,9 @@
 -- What an audit prints for a stored card file: document 02, R-13 ("prints, in order, for each refused one its name, a space and the listing's refusal
 -- line, with `input too long` above 2,048 bytes and `not read` where reading fails, and last `end` and the count that pass").
--- A file is given by its bytes, where it was read to its end. Its name stands at the front of the output, and of one longer than 131,072 bytes the rest
--- is not looked at: no argument that Linux hands to a program is so long.
+-- A file is given by the bytes that came of it: `Ok` where it was read to its end, `Err` where it was not. Its name stands at the front of the output, and of
+-- one longer than 131,072 bytes the rest is not looked at: no argument that Linux hands to a program is so long.
 -- Assumes nothing.
-use Rattle.std.specs.Prelude.{ℕ, ◌+◌, min, ◌≡◌, cond, List, [], ◌∷◌, ◌++◌, length, take, ltb, Option, Some, None}
+use Rattle.std.specs.Prelude.{ℕ, ◌+◌, min, ◌≡◌, cond, List, [], ◌∷◌, ◌++◌, length, take, ltb, Option, Some, None, Result, Ok, Err}
 use denote.Ref.{Bor}
 use Rattle.card.specs.Outcome.{Outcome, accepted, refused}
 use Rattle.card.specs.Reading.{read_card}
@@ -32,9 +32,9 @@ unfoldable pub fault_under : Outcome → List ℕ
 fault_under accepted = []
 fault_under (refused number offset) = refused_line number offset
 
-unfoldable pub fault : Option (List ℕ) → List ℕ
-fault None = not_read_line
-fault (Some bytes) = cond (ltb 2048 (length bytes)) too_long_line (fault_under (read_card bytes).outcome)
+unfoldable pub fault : Result (List ℕ) (List ℕ) → List ℕ
+fault (Err bytes) = not_read_line
+fault (Ok bytes) = cond (ltb 2048 (length bytes)) too_long_line (fault_under (read_card bytes).outcome)
 
 -- "for each refused one its name, a space and" why; nothing for the others
 unfoldable pub audit_line : List ℕ → List ℕ → List ℕ
@@ -46,10 +46,15 @@ unfoldable pub passes : List ℕ → ℕ
 passes [] = 1
 passes (x ∷ why) = 0
 
--- the bytes of a file that are lent, where it was read
-abbrev pub bytes_of : Option (Bor (List ℕ)) → Option (List ℕ)
-bytes_of None = None
-bytes_of (Some bytes) = Some bytes.now
+-- a file whose bytes are lent
+abbrev pub bytes_of : Result (Bor (List ℕ)) (Bor (List ℕ)) → Result (List ℕ) (List ℕ)
+bytes_of (Ok bytes) = Ok bytes.now
+bytes_of (Err bytes) = Err bytes.now
+
+-- the bytes that came of a file, read to its end or not
+abbrev pub came_of : Result (List ℕ) (List ℕ) → List ℕ
+came_of (Ok bytes) = bytes
+came_of (Err bytes) = bytes
 
 -- by the answer for a file, the count of its line's bytes: none where there is no line
 abbrev pub line_count : Option ℕ → ℕ
@@ -61,11 +66,11 @@ abbrev pub passed : Option ℕ → ℕ
 passed None = 1
 passed (Some count) = 0
 
-pub record Audits (file : Option (List ℕ)) (output : List ℕ) (size : ℕ) (r : Option ℕ) (after : List ℕ) : Type 0 where
+pub record Audits (file : Result (List ℕ) (List ℕ)) (output : List ℕ) (size : ℕ) (r : Option ℕ) (after : List ℕ) : Type 0 where
   -- the line, for which the output always has room
   pub told : AtFront audit_room (audit_line (name_in output size) (fault file)) output (line_count r) after
   pub counted : passed r ≡ passes (fault file)
-  -- a card that is accepted passes
-  pub good_passes : (bytes : List ℕ) → file ≡ Some bytes → (read_card bytes).outcome ≡ accepted → fault file ≡ []
+  -- a card that is accepted passes, where the file is read to its end
+  pub good_passes : (read_card (came_of file)).outcome ≡ accepted → fault (Ok (came_of file)) ≡ []
   -- what follows the first 2,049 bytes of a file changes nothing, so nobody needs to read further
-  pub by_the_front : (bytes all : List ℕ) → file ≡ Some bytes → bytes ≡ take 2049 all → fault (Some all) ≡ fault file
+  pub by_the_front : (all : List ℕ) → came_of file ≡ take 2049 all → fault (Ok all) ≡ fault (Ok (came_of file))

@@ -1,6 +1,6 @@
 -- A stored card: of at most 2,048 bytes, and accepted under the rule; or why a file holds none.
 -- Assumes nothing.
-use Rattle.std.specs.Prelude.{ℕ, ◌≤◌, ◌<◌, ◌≡◌, List, [], length, Option, Some, Result, Ok, Err}
+use Rattle.std.specs.Prelude.{ℕ, ◌≤◌, ◌<◌, ◌≡◌, List, [], length, Result, Ok, Err}
 use Rattle.code.specs.declared.Card.{Card}
 use Rattle.card.specs.declared.CardRule.{CardRule}
 use Rattle.card.specs.Promise.{CardPromise}
@@ -8,7 +8,7 @@ use Rattle.card.specs.Outcome.{accepted}
 use Rattle.card.specs.Reading.{read_under, read_card}
 use Rattle.card.specs.Refusals.{number_of}
 use Rattle.outcomes.specs.Listing.{too_long_line, refused_line}
-use Rattle.listing.specs.Auditing.{not_read_line, fault}
+use Rattle.listing.specs.Auditing.{not_read_line, fault, came_of}
 use Rattle.listing.specs.declared.stored.Why.{Why}
 use Rattle.listing.specs.declared.stored.Why.TheVariants.{NotRead, TooLong, Refused}
 
@@ -23,10 +23,10 @@ unfoldable pub why_not : Result (Unit {0}) Why → List ℕ
 why_not (Ok passed) = []
 why_not (Err why) = why_line why
 
--- whether a file passes: the reason is what the audit prints, and there is none where its card is accepted
-pub record Passes (file : Option (List ℕ)) (r : Result (Unit {0}) Why) : Type 0 where
+-- whether a file passes: the reason is what the audit prints, and there is none where it is read to its end and its card is accepted
+pub record Passes (file : Result (List ℕ) (List ℕ)) (r : Result (Unit {0}) Why) : Type 0 where
   pub reason : why_not r ≡ fault file
-  pub good_passes : (bytes : List ℕ) → file ≡ Some bytes → (read_card bytes).outcome ≡ accepted → fault file ≡ []
+  pub good_passes : (read_card (came_of file)).outcome ≡ accepted → fault (Ok (came_of file)) ≡ []
 
 -- what reading the bytes of a file came to: they were read, so it isn't that they were not
 abbrev pub ReadStored : CardRule → List ℕ → Result Card Why → Type 0

@@ -15,18 +15,24 @@ pub const MOST_NAME: usize = 131072;
 // No line is longer: a name, a space, and the line of a refusal, which has at most 36 bytes.
 pub const AUDIT_ROOM: usize = MOST_NAME + 1 + 36;
 
-// Whether a file passes, or why not. `None` is one that could not be read to its end.
-fn pass(file: Option<&[u8]>) -> Result<(), Why>
+// Whether a file passes, or why not. What came of one that could not be read to its end is no card, whatever bytes it has.
+fn pass(file: Result<&[u8], &[u8]>) -> Result<(), Why>
     ensures { Passes (bytes_of file.entry) result }
 {
-    let bytes = file.ok_or(Why::NotRead)?;
+    let Ok(bytes) = file else {
+        return Err(Why::NotRead);
+    };
     stored::read(CardRule::Present, bytes)?;
     Ok(())
 }
 
-// A file. Its name, of this size, stands at the front of the output: if it does not pass, its line is there afterwards, and the answer is the count of the
-// line's bytes.
-pub fn audit(file: Option<&[u8]>, output: &mut [u8; AUDIT_ROOM], size: usize) -> Option<usize>
+// A file, by the bytes that came of it: `Ok` if it was read to its end, `Err` if not. Its name, of this size, stands at the front of the output: if it does not
+// pass, its line is there afterwards, and the answer is the count of the line's bytes.
+pub fn audit(
+    file: Result<&[u8], &[u8]>,
+    output: &mut [u8; AUDIT_ROOM],
+    size: usize,
+) -> Option<usize>
     ensures { Audits (bytes_of file.entry) output.old size result output.new }
 {
     let Err(why) = pass(file) else {

@@ -10,7 +10,7 @@ ghost use Rattle.outcomes.specs.Wrote.{Stored};
 ghost use Rattle.listing.specs.Auditing.{not_read_line};
 ghost use Rattle.listing.specs.Written.{lettered, sizes, StoredLine};
 
-use crate::text::{number, numbered};
+use crate::text::{glyph, number, numbered};
 use card::Refusal;
 use code::Card;
 use outcomes::cursor::Cursor;
@@ -72,7 +72,9 @@ pub(crate) fn end_line(cursor: &mut Cursor<'_>, count: usize)
 fn stream_digit(cursor: &mut Cursor<'_>, frame: u8, i: usize)
     ensures { Stored cursor.old cursor.new (text " " ++ decimal (bit frame i)) }
 {
-    numbered(cursor, b" ", bits::digit(u32::from(frame), i) as usize);
+    // No `numbered`: its call would be made for one byte.
+    let digit = bits::digit(u32::from(frame), i) as usize;
+    cursor.put_all(&[b' ', glyph(digit)]);
 }
 
 // The digits of streams 1 to k of a frame, each after a space.

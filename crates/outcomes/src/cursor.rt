@@ -25,13 +25,22 @@ impl<'a> Cursor<'a> {
     {
         if self.at < self.output.len() {
             self.output[self.at] = value;
+            self.at += 1;
+        } else {
+            self.at = self.at.saturating_add(1);
         }
-        self.at = self.at.saturating_add(1);
     }
 
     pub fn put_all(&mut self, bytes: &[u8])
         ensures { Stored self.old self.new bytes.now }
     {
+        // Where there is room for all they are copied at once.
+        let end = self.at.saturating_add(bytes.len());
+        if end <= self.output.len() {
+            self.output[self.at..end].copy_from_slice(bytes);
+            self.at = end;
+            return;
+        }
         for byte in bytes {
             self.put(*byte);
         }

@@ -3,7 +3,7 @@ use Prim.Native.Nat.{ℕ, min}
 use mathlib.Core.Path.{◌≡◌, refl, ap, ◌∙◌}
 use mathlib.Core.List.{List, ◌++◌, append_assoc, append-nil}
 use lib.ListN.{length, take}
-use Rattle.std.specs.Prelude.{Option}
+use Rattle.std.specs.Prelude.{Option, Result}
 use Rattle.outcomes.specs.Text.{text, decimal, spaced, line}
 use Rattle.outcomes.specs.Listing.{too_long_line, refused_line, line_of_end}
 use Rattle.listing.specs.AtFront.{AtFront}
@@ -31,7 +31,7 @@ unfolding text spaced line line_of_end
 end_line passed = simp (append_assoc, append-nil)
 
 -- ---- the promises
-module _ {file : Option (List ℕ)} {output after : List ℕ} {size : ℕ} {r : Option ℕ} (promise : Audits file output size r after) where
+module _ {file : Result (List ℕ) (List ℕ)} {output after : List ℕ} {size : ℕ} {r : Option ℕ} (promise : Audits file output size r after) where
   -- by why the file does not pass
   told : (why : List ℕ) {l : List ℕ} → fault file ≡ why → audit_line (name_in output size) why ≡ l → passes why ≡ 0
       → (take (line_count r) after ≡ l) × (passed r ≡ 0)
@@ -43,13 +43,13 @@ module _ {file : Option (List ℕ)} {output after : List ℕ} {size : ℕ} {r : 
       let name = name_in output size in
       record {
         rest_kept = rest_kept promise.told;
-        not_read = λ e. told not_read_line (ap fault e ∙ not_read) (not-read-line name) not_read-fails;
+        not_read = λ bytes e. told not_read_line (ap fault e ∙ not_read bytes) (not-read-line name) not_read-fails;
         too_long = λ bytes e l. told too_long_line (ap fault e ∙ too_long bytes l) (too-long-line name) too_long-fails;
         card_refused = λ bytes number offset e l o.
             told (refused_line number offset) (ap fault e ∙ short bytes l ∙ ap fault_under o) (refused-told name number offset ∙ refused-line name number offset)
             (refused-fails number offset);
         card_passes = λ bytes e o.
-            let none = promise.good_passes bytes e o in
+            let none = ap fault e ∙ (rw e at promise.good_passes) o in
             (promise.told.count_is ∙ ap (λ (f : List ℕ). length (audit_line name f)) none, promise.counted ∙ ap passes none);
       }
 

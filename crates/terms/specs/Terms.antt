@@ -5,7 +5,7 @@
 -- card's fields, their bytes and the card that they state, and reading, front to back (`card`: `Fields`, `Layout`, `Reading`); a list of calls, each of which
 -- gets the session that the one before handed back (`encoder`, `receiving`: `Calls`). Streams and times are counted from 0.
 -- Assumes nothing.
-use Rattle.std.specs.Prelude.{ℕ, zero, suc, ◌+◌, ◌-◌, ◌*◌, ◌%◌, ◌^◌, ◌≤◌, ◌<◌, min, max, ◌≡◌, Bool, false, cond, not, ◌&&◌, ◌||◌, List, [], ◌∷◌, ◌++◌, map, length, get_or, take, drop, leb, ltb, eqb, ℤ, pos, neg_ℤ, Option, Some, None}
+use Rattle.std.specs.Prelude.{ℕ, zero, suc, ◌+◌, ◌-◌, ◌*◌, ◌%◌, ◌^◌, ◌≤◌, ◌<◌, min, max, ◌≡◌, Bool, false, cond, not, ◌&&◌, ◌||◌, List, [], ◌∷◌, ◌++◌, map, length, get_or, take, drop, leb, ltb, eqb, ℤ, pos, neg_ℤ, Result, Ok, Err}
 use Rattle.std.specs.Float.{nan, inf, fin}
 use Rattle.std.specs.Float.Ieee.{up, down}
 use Rattle.bits.specs.Sums.{sum_below, up_to}
@@ -383,15 +383,16 @@ pub record StandardCard (J : ℕ) (output : List ℕ) (answer : ℤ) (after : Li
 
 -- ==== R-13: an audit of stored card files
 
--- a file by its bytes, if it was read to its end; its name stands at the front of the output. "for each refused one its name, a space and the
--- listing's refusal line, with `input too long` above 2,048 bytes and `not read` where reading fails"; and what it adds to "the count that pass"
-pub record Audited (file : Option (List ℕ)) (name output : List ℕ) (n passed : ℕ) (after : List ℕ) : Type 0 where
+-- a file by the bytes that came of it, `Ok` if it was read to its end and `Err` if it was not; its name stands at the front of the output. "for each refused
+-- one its name, a space and the listing's refusal line, with `input too long` above 2,048 bytes and `not read` where reading fails"; and what it adds to
+-- "the count that pass"
+pub record Audited (file : Result (List ℕ) (List ℕ)) (name output : List ℕ) (n passed : ℕ) (after : List ℕ) : Type 0 where
   pub rest_kept : drop n after ≡ drop n output
-  pub not_read : file ≡ None → (take n after ≡ name ++ text " not read\n") × (passed ≡ 0)
-  pub too_long : (bytes : List ℕ) → file ≡ Some bytes → 2048 < length bytes → (take n after ≡ name ++ text " input too long\n") × (passed ≡ 0)
-  pub card_refused : (bytes : List ℕ) (number offset : ℕ) → file ≡ Some bytes → length bytes ≤ 2048 → (read_card bytes).outcome ≡ refused number offset
+  pub not_read : (bytes : List ℕ) → file ≡ Err bytes → (take n after ≡ name ++ text " not read\n") × (passed ≡ 0)
+  pub too_long : (bytes : List ℕ) → file ≡ Ok bytes → 2048 < length bytes → (take n after ≡ name ++ text " input too long\n") × (passed ≡ 0)
+  pub card_refused : (bytes : List ℕ) (number offset : ℕ) → file ≡ Ok bytes → length bytes ≤ 2048 → (read_card bytes).outcome ≡ refused number offset
       → (take n after ≡ name ++ (text " refused " ++ (decimal number ++ (text " at " ++ (decimal offset ++ text "\n"))))) × (passed ≡ 0)
-  pub card_passes : (bytes : List ℕ) → file ≡ Some bytes → (read_card bytes).outcome ≡ accepted → (n ≡ 0) × (passed ≡ 1)
+  pub card_passes : (bytes : List ℕ) → file ≡ Ok bytes → (read_card bytes).outcome ≡ accepted → (n ≡ 0) × (passed ≡ 1)
 
 -- "and last `end` and the count that pass"
 pub record AuditEnds (passed : ℕ) (output : List ℕ) (n : ℕ) (after : List ℕ) : Type 0 where

@@ -48,7 +48,11 @@ pub fn rewrite(input: &[u8], output: &mut [u8; REWRITING_ROOM]) -> usize
 
 // A file that does not pass has a line of so many bytes; one that passes has none, and counts. No name is longer than 131,072 bytes
 // (`listing/Auditing: most_name`).
-pub fn audit(file: Option<&[u8]>, output: &mut [u8; AUDIT_ROOM], size: usize) -> Option<usize>
+pub fn audit(
+    file: Result<&[u8], &[u8]>,
+    output: &mut [u8; AUDIT_ROOM],
+    size: usize,
+) -> Option<usize>
     ensures { term.Audited (bytes_of file.entry) (take (min size 131072) output.old) output.old (line_count result) (passed result) output.new }
 {
     auditing::audit(file, output, size)
