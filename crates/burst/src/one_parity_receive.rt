@@ -161,18 +161,12 @@ pub(crate) fn receive(card: &Card, input: &[u8], output: &mut [u8])
     let sorted_checks = sorted(&card.counts, &card.checks, k);
     let least = least_checks(&card.counts, &sorted_checks.left, k);
     let end = input.len() - m;
-    let mut word = filled(card, &puts, input);
-    let mut u = 0;
-    // One call of `hand_through`, which is compiled into this loop: with a second one before the loop a vote takes up to a third more.
-    while u < end {
-        let reached = hand_through(&puts, k, m, word, u, input, output);
-        u = reached.u;
-        if u == end {
-            return;
-        }
+    let first = filled(card, &puts, input);
+    let mut reached = hand_through(&puts, k, m, first, 0, input, output);
+    while reached.u < end {
         let errors = voted(card, &sorted_checks, least, syndromes(reached.word, m));
-        output[u] = corrected(input[u], k, errors);
-        word = fed_back(reached.word, &puts, m, errors);
-        u += 1;
+        output[reached.u] = corrected(input[reached.u], k, errors);
+        let word = fed_back(reached.word, &puts, m, errors);
+        reached = hand_through(&puts, k, m, word, reached.u + 1, input, output);
     }
 }
