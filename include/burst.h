@@ -165,7 +165,7 @@
  * - No memory is allocated, no file or device is touched, nothing is kept from one call to the next. So
  *   the functions may be called from several threads at once, each with an output of its own.
  * - A call takes less than BURST_STACK_BYTES of stack, most of it for the card that is being read:
- *   measured, 3,544 bytes by burst_send, 6,248 by burst_receive and 4,744 by card_write; by standard_card,
+ *   measured, 3,544 bytes by burst_send, 6,344 by burst_receive and 4,744 by card_write; by standard_card,
  *   which reads none, 40. `tests/run` measures it again.
  * - Each call ends. It takes time in proportion to the frames, after the reading of the card; standard_card
  *   has neither.
