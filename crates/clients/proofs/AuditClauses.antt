@@ -41,8 +41,10 @@ module _ {output after : List ℕ} {size : ℕ} {r : Option ℕ} where
   unfolding fault_under
   told-stored-P promise = fails promise (refused_line 18 2) (short stored_p (omega arith) ∙ ap fault_under read-stated-P) (refused-fails 18 2)
 
-  pub told-half-P : Audits (Err card_p) output size r after → (take (line_count r) after ≡ audit_line (name_in output size) not_read_line) × (passed r ≡ 0)
-  told-half-P promise = fails promise not_read_line (not_read card_p) not_read-fails
+  -- whatever bytes came, P's too
+  pub told-half-P : {bytes : List ℕ} → Audits (Err bytes) output size r after
+      → (take (line_count r) after ≡ audit_line (name_in output size) not_read_line) × (passed r ≡ 0)
+  told-half-P {bytes} promise = fails promise not_read_line (not_read bytes) not_read-fails
 
   module _ {bytes : List ℕ} (promise : Audits (Ok bytes) output size r after) where
     -- at most 2,048 bytes are read as a card
